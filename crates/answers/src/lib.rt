@@ -1,0 +1,83 @@
+// The answers of both sides, 0 to 15, under document 01's names, and the NVMe status that an answer to a command stands for.
+//
+// It rests on basics, for the words of its definitions. It promises that each answer's status is the one of specs/Answers.antt, and
+// that a refusal of the call itself has none.
+ghost use mathlib.Core.Path.{_≡_};
+ghost use Rattle.answers.specs.Answers.{nvmeStatus, noStatus, statusOf};
+
+// Success.
+pub const SUCCESS: u8 = 0;
+// Invalid Field in Command.
+pub const INVALID_FIELD: u8 = 1;
+// Invalid Log Page, with the identifier's class.
+pub const INVALID_LOG_PAGE: u8 = 2;
+// The transfer buffer is shorter than the transfer.
+pub const SHORT_BUFFER: u8 = 3;
+// The record and the lent stores disagree.
+pub const DISAGREE: u8 = 4;
+// Broken candidate.
+pub const BROKEN_CANDIDATE: u8 = 5;
+// Area 4 is wanted without DA4S and ETDAS.
+pub const NO_AREA_4: u8 = 6;
+// Bad header.
+pub const BAD_HEADER: u8 = 7;
+// The wanted area is larger than the copy.
+pub const NO_ROOM: u8 = 8;
+// Attempts used up.
+pub const ATTEMPTS_USED_UP: u8 = 9;
+// Withdrawn: an 08h header no longer shows TCDA 1.
+pub const WITHDRAWN: u8 = 10;
+// Nothing: the first 08h header shows TCDA 0.
+pub const NOTHING: u8 = 11;
+// The controller broke its word.
+pub const BROKE_ITS_WORD: u8 = 12;
+// Bad setup or state, bad builder arguments.
+pub const BAD_SETUP: u8 = 13;
+// Already ended.
+pub const ALREADY_ENDED: u8 = 14;
+// The completion doesn't fit the awaited command.
+pub const DOES_NOT_FIT: u8 = 15;
+
+// Status code type 0h.
+const GENERIC: u8 = 0x0;
+// Status code type 1h.
+const COMMAND_SPECIFIC: u8 = 0x1;
+
+// An NVMe status: status code type and status code. Where none is given, both are 0.
+pub struct Status {
+    pub given: bool,
+    pub sct: u8,
+    pub sc: u8,
+}
+
+fn nvme(sct: u8, sc: u8) -> Status
+    ensures { λ r. ⌜ r ≡ nvmeStatus sct sc ⌝ }
+{
+    Status {
+        given: true,
+        sct,
+        sc,
+    }
+}
+
+fn no_status() -> Status
+    ensures { λ r. ⌜ r ≡ noStatus ⌝ }
+{
+    Status {
+        given: false,
+        sct: 0,
+        sc: 0,
+    }
+}
+
+// The NVMe status of an answer. None is given for one that refuses the call itself, nor for a number that is no answer.
+pub fn status_of(answer: u8) -> Status
+    ensures { λ r. ⌜ r ≡ statusOf answer ⌝ }
+{
+    match answer {
+        SUCCESS => nvme(GENERIC, 0x00),
+        INVALID_FIELD => nvme(GENERIC, 0x02),
+        INVALID_LOG_PAGE => nvme(COMMAND_SPECIFIC, 0x09),
+        _ => no_status(),
+    }
+}

@@ -1,0 +1,38 @@
+-- Choosing by a test.
+-- Assumes nothing.
+use Prim.Native.Nat.{ℕ, _≤_}
+use mathlib.Core.Bool.{Bool, true, false}
+use mathlib.Core.Path.{_≡_, refl}
+use native.Mathlib.Omega.{arith}
+use lib.Dec.{leb}
+use borrow.Author.Tests.{leb-true, leb-false}
+
+-- the first where the test holds, else the second
+abbrev pub pick : {A : Type 0} → Bool → A → A → A
+pick true a b = a
+pick false a b = b
+
+-- the smaller of two numbers
+abbrev pub smaller : ℕ → ℕ → ℕ
+smaller a b = pick (leb a b) a b
+
+-- the larger of two numbers
+abbrev pub larger : ℕ → ℕ → ℕ
+larger a b = pick (leb a b) b a
+
+-- what holds of both choices holds of the choice
+pub pick-cases : {A : Type 0} (P : A → Type 0) (t : Bool) {a b : A} → (t ≡ true → P a) → (t ≡ false → P b) → P (pick t a b)
+pick-cases P true p q = p refl
+pick-cases P false p q = q refl
+
+pub smaller-left : (a b : ℕ) → smaller a b ≤ a
+smaller-left a b = pick-cases (λ (x : ℕ). x ≤ a) (leb a b) (λ e. omega arith) (λ e. let h = leb-false a b e in omega arith)
+
+pub smaller-right : (a b : ℕ) → smaller a b ≤ b
+smaller-right a b = pick-cases (λ (x : ℕ). x ≤ b) (leb a b) (λ e. leb-true a b e) (λ e. omega arith)
+
+pub larger-left : (a b : ℕ) → a ≤ larger a b
+larger-left a b = pick-cases (λ (x : ℕ). a ≤ x) (leb a b) (λ e. leb-true a b e) (λ e. omega arith)
+
+pub larger-right : (a b : ℕ) → b ≤ larger a b
+larger-right a b = pick-cases (λ (x : ℕ). b ≤ x) (leb a b) (λ e. omega arith) (λ e. let h = leb-false a b e in omega arith)

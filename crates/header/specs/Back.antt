@@ -1,0 +1,103 @@
+-- What is written is read back: the check of a header's bytes gives the fields that it was written from. One theorem over both pages.
+-- Assumes nothing.
+use Prim.Native.Nat.{ℕ, suc, _+_, _*_, _/_, _%_, _≤_, _<_}
+use mathlib.Core.Path.{_≡_, refl, sym, ap, _∙_}
+use mathlib.Core.List.{List, [], _∷_, _++_}
+use mathlib.Core.Bool.{Bool, true, false, _&&_, _||_}
+use native.Mathlib.Omega.{arith}
+use lib.ListN.{length, getD, take, drop}
+use lib.Seq.{take-all}
+use lib.Dec.{eqb, leb, ltb}
+use borrow.Author.Tests.{eq-eqb, ne-eqb}
+use Rattle.basics.specs.Choice.{pick}
+use Rattle.basics.specs.Numbers.{value-back}
+use Rattle.basics.specs.Tests.{each, clash}
+use Rattle.pages.specs.Pages.{hostPage, block}
+use Rattle.pages.specs.Trimmed.{LastRule, last-rule}
+use Rattle.answers.specs.Answers.{success}
+use Rattle.header.specs.declared.Fields.{Fields}
+use Rattle.header.specs.declared.Checked.{Checked}
+use Rattle.header.specs.Header.{marks, front, headerOf, lastAt, fieldsOf, fieldsOk, noFields, checkOf}
+
+-- a header is its front with the reason in place of the zeros
+pub write-is : (f : Fields) (m h r : List ℕ) → m ≡ marks f → h ≡ front (f .page) (f .oui) (f .last) m → r ≡ take 384 h ++ f .reason
+    → r ≡ headerOf f
+unfolding headerOf
+write-is f m h r em eh er =
+    er
+    ∙ ap (λ (l : List ℕ). take 384 l ++ f .reason) eh
+    ∙ ap (λ (l : List ℕ). take 384 (front (f .page) (f .oui) (f .last) l) ++ f .reason) em
+
+-- what the check is where its tests are known
+pub check-short : (page : ℕ) (da4s : Bool) (h : List ℕ) → (length h ≡ block → ⊥) → noFields ≡ checkOf page da4s h
+unfolding checkOf
+check-short page da4s h n = rw (ne-eqb (length h) block n)
+
+pub check-long : (page : ℕ) (da4s : Bool) (h : List ℕ) (f : Fields) (ok : Bool)
+    → length h ≡ block → f ≡ fieldsOf page h → ok ≡ fieldsOk page da4s f
+    → pick ok (record { answer = success; fields = f }) noFields ≡ checkOf page da4s h
+unfolding checkOf
+check-long page da4s h f ok l e q =
+    ap (λ (t : Bool). pick t (record { answer = success; fields = f }) noFields) q
+    ∙ ap (λ (g : Fields). pick (fieldsOk page da4s g) (record { answer = success; fields = g }) noFields) e
+    ∙ rw (eq-eqb (length h) block l)
+
+-- fields that a header can carry: arrays of the lengths that their types say, an OUI of three bytes, and no host generation on 08h
+pub record Carried (f : Fields) : Type 0 where
+  pub oui : f .oui < 16777216
+  pub four : length (f .last) ≡ 4
+  pub host : eqb (f .page) hostPage ≡ false → f .hostgen ≡ 0
+  pub reason : length (f .reason) ≡ 128
+
+four-of : (l : List ℕ) → length l ≡ 4 → getD l 0 0 ∷ getD l 1 0 ∷ getD l 2 0 ∷ getD l 3 0 ∷ [] ≡ l
+four-of [] e = absurd (omega arith)
+four-of (a ∷ []) e = absurd (omega arith)
+four-of (a ∷ b ∷ []) e = absurd (omega arith)
+four-of (a ∷ b ∷ c ∷ []) e = absurd (omega arith)
+four-of (a ∷ b ∷ c ∷ d ∷ []) e = refl
+four-of (a ∷ b ∷ c ∷ d ∷ x ∷ l) e = absurd (omega arith)
+
+scope-back : (b : Bool) (s h : ℕ) → pick b (pick b s 0) (pick b h s) ≡ s
+scope-back true s h = refl
+scope-back false s h = refl
+
+host-back : (b : Bool) (s h : ℕ) → (b ≡ false → h ≡ 0) → pick b (pick b h s) 0 ≡ h
+host-back true s h e = refl
+host-back false s h e = sym (e refl)
+
+last-back : (f : Fields) (da4s : Bool) → length (f .last) ≡ 4 → LastRule da4s (f .last) → lastAt (headerOf f) ≡ f .last
+unfolding headerOf
+last-back f da4s e r =
+    let a1 = value-back 2 (getD (f .last) 0 0) (omega arith) in
+    let a2 = value-back 2 (getD (f .last) 1 0) (omega arith) in
+    let a3 = value-back 2 (getD (f .last) 2 0) (omega arith) in
+    let a4 = value-back 4 (getD (f .last) 3 0) (omega arith) in
+    simp (a1, a2, a3, a4) (four-of (f .last) e)
+
+same-fields : (f : Fields) {oui scope hostgen : ℕ} {last reason : List ℕ}
+    → oui ≡ f .oui → last ≡ f .last → scope ≡ f .scope → hostgen ≡ f .hostgen → reason ≡ f .reason
+    → record { page = f .page; oui = oui; last = last; scope = scope; hostgen = hostgen; tcda = f .tcda; ctrlgen = f .ctrlgen; reason = reason } ≡ f
+same-fields f o l s h r = rw (o, l, s, h, r)
+
+fields-back : (f : Fields) (da4s : Bool) → Carried f → LastRule da4s (f .last) → fieldsOf (f .page) (headerOf f) ≡ f
+unfolding headerOf
+fields-back f da4s w r =
+    same-fields f
+    (value-back 3 (f .oui) (w .oui))
+    (last-back f da4s (w .four) r)
+    (scope-back (eqb (f .page) hostPage) (f .scope) (f .hostgen))
+    (host-back (eqb (f .page) hostPage) (f .scope) (f .hostgen) (w .host))
+    (take-all 128 (f .reason) (omega (arith, w .reason)))
+
+pub header-length : (f : Fields) → length (f .reason) ≡ 128 → length (headerOf f) ≡ block
+unfolding headerOf
+header-length f e = rw e
+
+-- Demand 2: a header written from fields that a header can carry and that are no bad header's is checked to exactly those fields.
+pub header-reads-back : (da4s : Bool) (f : Fields) → Carried f → fieldsOk (f .page) da4s f ≡ true
+    → checkOf (f .page) da4s (headerOf f) ≡ record { answer = success; fields = f }
+unfolding fieldsOk
+header-reads-back da4s f w ok =
+    sym
+    (check-long (f .page) da4s (headerOf f) f true (header-length f (w .reason))
+    (sym (fields-back f da4s w (last-rule da4s (f .last) (each _ ok 1)))) (sym ok))

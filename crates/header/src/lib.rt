@@ -1,0 +1,196 @@
+// The 512-byte header of the pages 07h and 08h: written from its fields, and checked and read by the host.
+//
+// It rests on basics, parts, answers and pages. It promises that the bytes written and the answer of the check are those of specs/Header.antt,
+// and that a header written from fields that agree is checked to exactly those fields (specs/Back.antt).
+ghost use mathlib.Core.Path.{_≡_};
+ghost use mathlib.Core.List.{_++_};
+ghost use Prim.Native.Nat.{_+_, _*_};
+ghost use lib.ListN.{length, take, drop};
+ghost use Rattle.basics.specs.Choice.{pick};
+ghost use Rattle.basics.specs.Numbers.{valueOf};
+ghost use Rattle.answers.specs.Answers.{success};
+ghost use Rattle.header.specs.Header.{front, marks, headerOf, lastAt, fieldsOf, fieldsOk, noFields, checkOf};
+
+// What a header says. `hostgen` is the host generation, which an 08h header does not have: 0 there. `ctrlgen` is the controller
+// generation.
+pub struct Fields {
+    pub page: u8,
+    pub oui: u32,
+    pub last: [u32; 4],
+    pub scope: u8,
+    pub hostgen: u8,
+    pub tcda: u8,
+    pub ctrlgen: u8,
+    pub reason: [u8; 128],
+}
+
+// What a check answers: 0 with the fields, or 7 with zeros in their place.
+pub struct Checked {
+    pub answer: u8,
+    pub fields: Fields,
+}
+
+// Bytes 380 to 383.
+fn marks_of(f: Fields) -> [u8; 4]
+    ensures { λ r. ⌜ r ≡ marks f ⌝ }
+{
+    let host = f.page == pages::HOST;
+    let first = basics::pick_u8(host, f.scope, 0);
+    let second = basics::pick_u8(host, f.hostgen, f.scope);
+    [first, second, f.tcda, f.ctrlgen]
+}
+
+// The header with zeros for its reason, `m` being bytes 380 to 383.
+fn put_front(page: u8, oui: u32, last: [u32; 4], m: [u8; 4]) -> [u8; 512]
+    ensures { λ r. ⌜ r ≡ front page oui last m ⌝ }
+{
+    let mut h = [0u8; 512];
+    h[0] = page;
+    h[5] = (oui % 256) as u8;
+    h[6] = (oui / 256 % 256) as u8;
+    h[7] = (oui / 256 / 256 % 256) as u8;
+    h[8] = (last[0] % 256) as u8;
+    h[9] = (last[0] / 256 % 256) as u8;
+    h[10] = (last[1] % 256) as u8;
+    h[11] = (last[1] / 256 % 256) as u8;
+    h[12] = (last[2] % 256) as u8;
+    h[13] = (last[2] / 256 % 256) as u8;
+    h[16] = (last[3] % 256) as u8;
+    h[17] = (last[3] / 256 % 256) as u8;
+    h[18] = (last[3] / 256 / 256 % 256) as u8;
+    h[19] = (last[3] / 256 / 256 / 256 % 256) as u8;
+    h[380] = m[0];
+    h[381] = m[1];
+    h[382] = m[2];
+    h[383] = m[3];
+    h
+}
+
+// The first 384 bytes of `h`, then the reason.
+fn put_reason(h: [u8; 512], reason: [u8; 128]) -> [u8; 512]
+    ensures { λ r. ⌜ r ≡ take 384 h ++ reason ⌝ }
+{
+    let mut out = h;
+    parts::put(&reason, &mut out, 384);
+    out
+}
+
+// The header's 512 bytes.
+pub fn write(f: Fields) -> [u8; 512]
+    ensures { λ r. ⌜ r ≡ headerOf f ⌝ }
+{
+    let last = f.last;
+    let reason = f.reason;
+    put_reason(put_front(f.page, f.oui, last, marks_of(f)), reason)
+}
+
+fn of2(a: u8, b: u8) -> u32
+    ensures { λ r. ⌜ r ≡ a + 256 * b ⌝ }
+{
+    (a as u32) + 256 * (b as u32)
+}
+
+fn of3(a: u8, b: u8, c: u8) -> u32
+    ensures { λ r. ⌜ r ≡ a + 256 * (b + 256 * c) ⌝ }
+{
+    (a as u32) + 256 * ((b as u32) + 256 * (c as u32))
+}
+
+fn of4(a: u8, b: u8, c: u8, d: u8) -> u32
+    ensures { λ r. ⌜ r ≡ a + 256 * (b + 256 * (c + 256 * d)) ⌝ }
+{
+    (a as u32) + 256 * ((b as u32) + 256 * ((c as u32) + 256 * (d as u32)))
+}
+
+fn last_at(h: &[u8]) -> [u32; 4]
+    requires { ⌜ length (now h) ≡ 512 ⌝ }
+    ensures { λ r. ⌜ r ≡ lastAt (now (h .entry)) ⌝ }
+{
+    let a1 = of2(h[8], h[9]);
+    let a2 = of2(h[10], h[11]);
+    let a3 = of2(h[12], h[13]);
+    let a4 = of4(h[16], h[17], h[18], h[19]);
+    [a1, a2, a3, a4]
+}
+
+fn reason_at(h: &[u8]) -> [u8; 128]
+    requires { ⌜ length (now h) ≡ 512 ⌝ }
+    ensures { λ r. ⌜ r ≡ take 128 (drop 384 (now (h .entry))) ⌝ }
+{
+    let mut reason = [0u8; 128];
+    parts::put(&h[384..512], &mut reason, 0);
+    reason
+}
+
+fn fields_of(page: u8, h: &[u8]) -> Fields
+    requires { ⌜ length (now h) ≡ 512 ⌝ }
+    ensures { λ r. ⌜ r ≡ fieldsOf page (now (h .entry)) ⌝ }
+{
+    let host = page == pages::HOST;
+    let last = last_at(h);
+    let reason = reason_at(h);
+    Fields {
+        page: h[0],
+        oui: of3(h[5], h[6], h[7]),
+        last,
+        scope: basics::pick_u8(host, h[380], h[381]),
+        hostgen: basics::pick_u8(host, h[381], 0),
+        tcda: h[382],
+        ctrlgen: h[383],
+        reason,
+    }
+}
+
+fn fields_ok(page: u8, da4s: bool, f: Fields) -> bool
+    ensures { λ r. ⌜ r ≡ fieldsOk page da4s f ⌝ }
+{
+    let last = f.last;
+    let a3 = last[2];
+    (((page == pages::HOST) | (page == pages::CTRL)) & (f.page == page))
+        & pages::last_ok(da4s, last)
+        & (f.scope <= 2)
+        & (f.tcda <= 1)
+        & ((page == pages::HOST) | (f.tcda == 0) | (0 < a3))
+}
+
+fn no_fields() -> Checked
+    ensures { λ r. ⌜ r ≡ noFields ⌝ }
+{
+    Checked {
+        answer: answers::BAD_HEADER,
+        fields: Fields {
+            page: 0,
+            oui: 0,
+            last: [0; 4],
+            scope: 0,
+            hostgen: 0,
+            tcda: 0,
+            ctrlgen: 0,
+            reason: [0; 128],
+        },
+    }
+}
+
+fn judged(ok: bool, f: Fields) -> Checked
+    ensures { λ r. ⌜ r ≡ pick ok (record { answer = success; fields = f }) noFields ⌝ }
+{
+    if ok {
+        Checked {
+            answer: answers::SUCCESS,
+            fields: f,
+        }
+    } else {
+        no_fields()
+    }
+}
+
+// The fields of a header of the page asked for, under a DA4S, or 7 where it is bad.
+pub fn check(page: u8, da4s: bool, h: &[u8]) -> Checked
+    ensures { λ r. ⌜ r ≡ checkOf page da4s (now (h .entry)) ⌝ }
+{
+    if h.len() != pages::BLOCK {
+        return no_fields();
+    }
+    let f = fields_of(page, h);
+    judged(fields_ok(page, da4s, f), f)
+}

@@ -1,0 +1,12 @@
+-- `records::fresh` meets its contract: every number is the definition's zero.
+-- Assumes nothing.
+use Rattle.records.specs.Records.{freshOf}
+use Rattle.records.proofs.fresh.Statement.{statement}
+use Rattle.records.proofs.fresh.Tie as tie
+
+returns : tie.Need-returns
+unfolding freshOf
+returns c = cc
+
+pub fresh-spec : {M : Type 1} → statement M
+fresh-spec = tie.close (tie.spec returns)

@@ -1,0 +1,88 @@
+-- A controller's record: document 01, "Answer numbers", when it disagrees with the lent stores (4), and "Header bytes", what a header shows.
+-- Assumes nothing.
+use Prim.Native.Nat.{ℕ, _*_}
+use mathlib.Core.List.{List, [], _∷_}
+use mathlib.Core.Bool.{Bool, true, false, not, _&&_, _||_}
+use lib.ListN.{getD}
+use lib.Dec.{ltb, leb, eqb}
+use Rattle.basics.specs.Choice.{pick}
+use Rattle.basics.specs.Tests.{holds}
+use Rattle.parts.specs.Parts.{zeros}
+use Rattle.pages.specs.Pages.{hostPage, ctrlPage, block, lastOk, greatestOf}
+use Rattle.pages.specs.declared.Caps.{Caps}
+use Rattle.header.specs.declared.Fields.{Fields}
+use Rattle.records.specs.declared.Identity.{Identity}
+use Rattle.records.specs.declared.HostPage.{HostPage}
+use Rattle.records.specs.declared.CtrlPage.{CtrlPage}
+use Rattle.records.specs.declared.Record.{Record}
+
+-- both scopes are 1 or 2, and the OUI has 24 bits
+unfoldable pub identityOk : Identity → Bool
+identityOk i =
+    holds
+    ((eqb (i .hostscope) 1 || eqb (i .hostscope) 2)
+    ∷ (eqb (i .ctrlscope) 1 || eqb (i .ctrlscope) 2)
+    ∷ ltb (i .oui) 16777216
+    ∷ [])
+
+-- last blocks keep the rule, and their store is no shorter than the greatest of them
+unfoldable pub storeOk : Bool → List ℕ → ℕ → Bool
+storeOk da4s last store = holds (lastOk da4s last ∷ leb (block * greatestOf last) store ∷ [])
+
+-- on 08h besides: TCDA is at most 1; where it is 0 all last blocks are 0, and where it is 1 a3 is not
+unfoldable pub ctrlOk : Bool → ℕ → List ℕ → ℕ → Bool
+ctrlOk da4s tcda last store =
+    holds
+    (storeOk da4s last store
+    ∷ leb tcda 1
+    ∷ (not (eqb tcda 0) || eqb (greatestOf last) 0)
+    ∷ (not (eqb tcda 1) || ltb 0 (getD last 2 0))
+    ∷ [])
+
+-- the record agrees with host and controller stores of these many bytes
+unfoldable pub agreesWith : Record → ℕ → ℕ → Bool
+agreesWith r hostStore ctrlStore =
+    holds
+    (storeOk (r .caps .da4s) (r .host .last) hostStore
+    ∷ ctrlOk (r .caps .da4s) (r .ctrl .tcda) (r .ctrl .last) ctrlStore
+    ∷ identityOk (r .identity)
+    ∷ [])
+
+-- what an 07h header shows
+unfoldable pub hostFields : Record → Fields
+hostFields r = record {
+  page = hostPage;
+  oui = r .identity .oui;
+  last = r .host .last;
+  scope = r .identity .hostscope;
+  hostgen = r .host .generation;
+  tcda = r .ctrl .tcda;
+  ctrlgen = r .ctrl .generation;
+  reason = r .host .reason;
+}
+
+-- what an 08h header shows
+unfoldable pub ctrlFields : Record → Fields
+ctrlFields r = record {
+  page = ctrlPage;
+  oui = r .identity .oui;
+  last = r .ctrl .last;
+  scope = r .identity .ctrlscope;
+  hostgen = 0;
+  tcda = r .ctrl .tcda;
+  ctrlgen = r .ctrl .generation;
+  reason = r .ctrl .reason;
+}
+
+-- what a header of the page shows
+unfoldable pub fieldsFor : ℕ → Record → Fields
+fieldsFor page r = pick (eqb page hostPage) (hostFields r) (ctrlFields r)
+
+-- a record before any capture
+unfoldable pub freshOf : Caps → Identity → Record
+freshOf caps identity = record {
+  caps = caps;
+  identity = identity;
+  host = record { last = zeros 4; generation = 0; reason = zeros 128 };
+  ctrl = record { last = zeros 4; generation = 0; tcda = 0; notice = false; reason = zeros 128 };
+}
