@@ -22,6 +22,11 @@ holds (t ∷ ts) = from t ts
 pub clash : {A : Type 0} {t : Bool} → t ≡ true → t ≡ false → A
 clash p q = let z : _≡_ {A = ℕ} 0 1 = cc in absurd (omega arith)
 
+-- a test holds or does not
+pub by-test : {A : Type 0} (t : Bool) → (t ≡ true → A) → (t ≡ false → A) → A
+by-test true f g = f refl
+by-test false f g = g refl
+
 pub and-left : (a b : Bool) → a && b ≡ true → a ≡ true
 and-left true b e = refl
 and-left false b e = e

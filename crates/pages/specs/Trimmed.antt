@@ -177,3 +177,31 @@ trim-keeps-rule caps mcda a o =
     (λ h. rule-of (caps .da4s) (getD a 0 0) (getD a 1 0) (getD a 1 0) (getD a 1 0) (o .one-two) (omega arith) (omega arith) (omega arith) h (λ e. e))
     (λ h. rule-of (caps .da4s) (getD a 0 0) (getD a 1 0) (getD a 2 0) (getD a 2 0) (o .one-two) (o .two-three) (o .three-most) (omega arith) h (λ e. e))
     (λ e h. rule-of (caps .da4s) (getD a 0 0) (getD a 1 0) (getD a 2 0) (getD a 3 0) (o .one-two) (o .two-three) (o .three-most) (o .three-four) h (o .four-some))
+
+-- the greatest last block stored is that of the greatest area kept
+pub trim-greatest : (caps : Caps) (mcda : ℕ) (a : List ℕ) → InOrder a → greatestOf (trimOf caps mcda a) ≤ lastOf (topOf caps mcda) a
+unfolding trimOf trimmedTo greatestOf
+trim-greatest caps mcda a o =
+    top-cases (λ (m : ℕ). greatestOf (trimmedTo (caps .da4s) m a) ≤ lastOf m a) caps mcda
+    (within-four (caps .da4s) _ _ _ _ _ (omega arith) (omega arith) (omega arith) (omega arith))
+    (within-four (caps .da4s) _ _ _ _ _ (o .one-two) (omega arith) (omega arith) (omega arith))
+    (within-four (caps .da4s) _ _ _ _ _ (omega arith) (o .two-three) (omega arith) (omega arith))
+    (λ e. within-four (caps .da4s) _ _ _ _ _ (omega arith) (omega arith) (o .three-four) (omega arith))
+  where
+    larger-most : (x y n : ℕ) → x ≤ n → y ≤ n → larger x y ≤ n
+    larger-most x y n p q = pick-cases (λ (z : ℕ). z ≤ n) (leb x y) (λ e. q) (λ e. p)
+
+    within-four : (da4s : Bool) (x y z u n : ℕ) → x ≤ n → y ≤ n → z ≤ n → u ≤ n → larger x (larger y (larger z (pick da4s u 0))) ≤ n
+    within-four da4s x y z u n p q r s =
+        larger-most x _ n p (larger-most y _ n q (larger-most z _ n r (pick-cases (λ (v : ℕ). v ≤ n) da4s (λ e. s) (λ e. omega arith))))
+
+-- without an MCDA areas 1 to 3 are kept whole
+pub trim-three : (caps : Caps) (a : List ℕ) → getD (trimOf caps 0 a) 2 0 ≡ getD a 2 0
+unfolding trimOf trimmedTo topOf
+trim-three caps a =
+    uncut (caps .mcdas) (smaller (pick (area4 caps) 4 3) 0) (pick (area4 caps) 4 3) (λ (m : ℕ). getD (trimmedTo (caps .da4s) m a) 2 0 ≡ getD a 2 0)
+    (pick-cases (λ (m : ℕ). getD (trimmedTo (caps .da4s) m a) 2 0 ≡ getD a 2 0) (area4 caps) (λ e. refl) (λ e. refl))
+  where
+    uncut : (t : Bool) (x y : ℕ) (P : ℕ → Type 0) → P y → P (pick (t && leb 1 0 && leb 0 4) x y)
+    uncut true x y P p = p
+    uncut false x y P p = p

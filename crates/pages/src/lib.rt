@@ -66,6 +66,13 @@ pub fn greatest(a: [u32; 4]) -> u32
     )
 }
 
+// The bytes of this many blocks.
+pub fn in_bytes(blocks: u32) -> usize
+    ensures { λ r. ⌜ r ≡ block * blocks ⌝ }
+{
+    BLOCK * (blocks as usize)
+}
+
 // The blocks that the page has after its header.
 pub fn blocks(caps: Caps, a: [u32; 4]) -> u32
     ensures { λ r. ⌜ r ≡ blocksOf caps a ⌝ }

@@ -9,7 +9,7 @@ use native.Mathlib.Nat.{add-sub-cancel-left}
 use lib.Dec.{leb}
 use borrow.Author.Tests.{leb-true, le-leb, lt-leb}
 use lib.ListN.{length, take, drop, replicate, length-take, length-drop, length-append, length-replicate, take-append-drop, drop-of-length-le}
-use lib.Seq.{drop-append-le, drop-drop, take-all, take-take}
+use lib.Seq.{drop-append-le, drop-drop, take-all, take-at, drop-at}
 use Rattle.basics.specs.Choice.{pick, pick-cases}
 
 -- n zero bytes
@@ -87,3 +87,12 @@ put-end d s p h =
 -- a whole list replaced
 pub put-whole : (d s : List ℕ) → length d ≡ length s → putAt d 0 s ≡ s
 put-whole d s h = put-end d s 0 (omega arith)
+
+-- one put after another, each where the last ended
+pub put-next : (x d y : List ℕ) (p : ℕ) → length x ≡ p → p + length y ≤ length d → putAt (x ++ drop p d) p y ≡ (x ++ y) ++ drop (p + length y) d
+put-next x d y p e h =
+    put-fits (x ++ drop p d) p y (simp (length-append, length-drop) (omega arith))
+    ∙ ap (λ (l : List ℕ). l ++ (y ++ drop (p + length y) (x ++ drop p d))) (take-at x (drop p d) p e)
+    ∙ ap (λ (l : List ℕ). x ++ (y ++ l))
+    (sym (drop-drop (length y) p (x ++ drop p d)) ∙ ap (λ (l : List ℕ). drop (length y) l) (drop-at x (drop p d) p e) ∙ drop-drop (length y) p d)
+    ∙ sym (append-assoc x y (drop (p + length y) d))

@@ -1,0 +1,154 @@
+-- What a command and a capture do: document 01, "Captures" and "Answer numbers". A world is a record with both stores.
+-- Assumes nothing.
+use Prim.Native.Nat.{ℕ, _+_, _*_, _%_}
+use mathlib.Core.List.{List, [], _∷_, _++_}
+use mathlib.Core.Bool.{Bool, true, false, not, _&&_}
+use lib.ListN.{length, take, drop}
+use lib.Dec.{eqb}
+use Rattle.basics.specs.Choice.{pick}
+use Rattle.parts.specs.Parts.{zeros, putAt}
+use Rattle.answers.specs.Answers.{success, invalidLogPage}
+use Rattle.classes.specs.Classes.{classOf}
+use Rattle.pages.specs.Pages.{hostPage, ctrlPage, block, lastOf, blocksOf, topOf, trimOf}
+use Rattle.words.specs.declared.Command.{Command}
+use Rattle.words.specs.declared.Words.{Words}
+use Rattle.words.specs.Words.{readOf}
+use Rattle.header.specs.Header.{headerOf}
+use Rattle.records.specs.declared.Record.{Record}
+use Rattle.records.specs.Records.{fieldsFor}
+use Rattle.serving.specs.Serving.{pageBytes, windowOf}
+use Rattle.verdicts.specs.declared.Lent.{Lent}
+use Rattle.verdicts.specs.Verdicts.{commandAnswer, captureAnswer}
+
+-- ---- what a command is lent
+
+-- a controller's record and its two stores
+pub record World : Type 0 where
+  pub drive : Record
+  pub host : List ℕ
+  pub ctrl : List ℕ
+
+abbrev pub world : Record → List ℕ → List ℕ → World
+world r h c = record { drive = r; host = h; ctrl = c }
+
+-- four last blocks, bytes and a reason
+pub record Candidate : Type 0 where
+  pub last : List ℕ
+  pub bytes : List ℕ
+  pub reason : List ℕ
+
+abbrev pub candidate : List ℕ → List ℕ → List ℕ → Candidate
+candidate last bytes reason = record { last = last; bytes = bytes; reason = reason }
+
+-- ---- the page
+
+abbrev pub storeFor : ℕ → World → List ℕ
+storeFor page w = pick (eqb page hostPage) (w .host) (w .ctrl)
+
+-- the header, then the store's blocks
+unfoldable pub pageOf : ℕ → World → List ℕ
+pageOf page w =
+    pageBytes (headerOf (fieldsFor page (w .drive))) (storeFor page w) (blocksOf (w .drive .caps) (fieldsFor page (w .drive) .last))
+
+-- ---- captures and the acknowledgement
+
+-- up by one, and 255 is followed by 0
+abbrev pub nextGeneration : ℕ → ℕ
+nextGeneration g = (g + 1) % 256
+
+-- the record with these last blocks and this reason captured on 07h
+abbrev pub hostTaken : Record → List ℕ → List ℕ → Record
+hostTaken r last reason = record {
+  caps = r .caps;
+  identity = r .identity;
+  host = record { last = last; generation = nextGeneration (r .host .generation); reason = reason };
+  ctrl = r .ctrl;
+}
+
+-- and on 08h: TCDA and the notice are set
+abbrev pub ctrlTaken : Record → List ℕ → List ℕ → Record
+ctrlTaken r last reason = record {
+  caps = r .caps;
+  identity = r .identity;
+  host = r .host;
+  ctrl = record { last = last; generation = nextGeneration (r .ctrl .generation); tcda = 1; notice = true; reason = reason };
+}
+
+-- the record with TCDA, the notice and the four last blocks of 08h cleared; reason and generation stay
+abbrev pub clearedOf : Record → Record
+clearedOf r = record {
+  caps = r .caps;
+  identity = r .identity;
+  host = r .host;
+  ctrl = record { last = zeros 4; generation = r .ctrl .generation; tcda = 0; notice = false; reason = r .ctrl .reason };
+}
+
+-- a store with a candidate's first blocks, the rest as it was
+abbrev pub keptIn : List ℕ → Candidate → ℕ → List ℕ
+keptIn store cand blocks = putAt store 0 (take (block * blocks) (cand .bytes))
+
+-- a host capture under an MCDA
+unfoldable pub hostCaptured : World → Candidate → ℕ → World
+hostCaptured w cand mcda =
+    world (hostTaken (w .drive) (trimOf (w .drive .caps) mcda (cand .last)) (cand .reason))
+    (keptIn (w .host) cand (lastOf (topOf (w .drive .caps) mcda) (cand .last)))
+    (w .ctrl)
+
+-- a capture on 08h, which has no MCDA
+unfoldable pub ctrlCaptured : World → Candidate → World
+ctrlCaptured w cand =
+    world (ctrlTaken (w .drive) (trimOf (w .drive .caps) 0 (cand .last)) (cand .reason)) (w .host)
+    (keptIn (w .ctrl) cand (lastOf (topOf (w .drive .caps) 0) (cand .last)))
+
+-- ---- a command
+
+-- what a command leaves: its answer, the class with it, the world and the buffer
+pub record Outcome : Type 0 where
+  pub answer : ℕ
+  pub class : ℕ
+  pub world : World
+  pub buf : List ℕ
+
+abbrev pub outcome : ℕ → ℕ → World → List ℕ → Outcome
+outcome answer class w buf = record { answer = answer; class = class; world = w; buf = buf }
+
+-- the class comes with answer 2 alone
+abbrev pub classFor : ℕ → ℕ → ℕ
+classFor answer page = pick (eqb answer invalidLogPage) (classOf page) 0
+
+abbrev pub lentBy : World → Candidate → List ℕ → Lent
+lentBy w cand buf =
+    record { host = length (w .host); ctrl = length (w .ctrl); bytes = length (cand .bytes); reason = length (cand .reason); buf = length buf }
+
+-- a create captures before the transfer
+unfoldable pub before : World → Candidate → Command → World
+before w cand c = pick (c .create) (hostCaptured w cand (c .mcda)) w
+
+-- the page's bytes from the offset, zeros past its end; the buffer beyond the transfer stays
+unfoldable pub sentOf : World → Command → List ℕ → List ℕ
+sentOf w c buf = windowOf (c .offset) (c .bytes) (pageOf (c .page) w) ++ drop (c .bytes) buf
+
+-- on 08h RAE 0 clears after the transfer
+unfoldable pub afterwards : World → Command → World
+afterwards w c = pick (eqb (c .page) ctrlPage && not (c .rae)) (world (clearedOf (w .drive)) (w .host) (w .ctrl)) w
+
+-- what an answer does: success captures, transfers and acknowledges, and anything else changes nothing
+unfoldable pub answered : World → Candidate → Command → List ℕ → ℕ → Outcome
+answered w cand c buf answer =
+    pick (eqb answer success)
+    (outcome success 0 (afterwards (before w cand c) c) (sentOf (before w cand c) c buf))
+    (outcome answer (classFor answer (c .page)) w buf)
+
+-- what the words say, judged and done
+unfoldable pub commandOf : World → Candidate → Words → List ℕ → Outcome
+commandOf w cand words buf =
+    answered w cand (readOf (w .drive .caps .ext) words) buf
+    (commandAnswer (w .drive) (readOf (w .drive .caps .ext) words) (cand .last) (lentBy w cand buf))
+
+-- ---- a capture on 08h
+
+unfoldable pub captureAnswered : World → Candidate → ℕ → Outcome
+captureAnswered w cand answer = pick (eqb answer success) (outcome success 0 (ctrlCaptured w cand) []) (outcome answer 0 w [])
+
+unfoldable pub captureOf : World → Candidate → Outcome
+captureOf w cand = captureAnswered w cand (captureAnswer (w .drive) (cand .last) (lentBy w cand []))

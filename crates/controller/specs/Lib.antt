@@ -1,0 +1,4 @@
+pub mod Controller
+pub mod Steps
+pub mod Laws
+pub mod Own

@@ -1,0 +1,210 @@
+-- What the commands of a collection are answered: the builder's words, judged and served by an agreeing controller.
+-- Assumes nothing.
+use Prim.Native.Nat.{ℕ, _+_, _-_, _*_, _%_, _≤_, _<_}
+use mathlib.Core.Path.{_≡_, refl, sym, ap, subst, _∙_}
+use mathlib.Core.List.{List, [], _∷_, _++_}
+use mathlib.Core.Bool.{Bool, true, false, not, _&&_, _||_}
+use native.Mathlib.Omega.{arith}
+use lib.ListN.{length, take, drop, getD}
+use lib.Dec.{leb, eqb}
+use borrow.Author.Tests.{eq-eqb, leb-true, leb-false, le-leb, lt-leb}
+use Rattle.basics.specs.Choice.{pick}
+use Rattle.basics.specs.Tests.{holds, by-test, each, clash}
+use Rattle.answers.specs.Answers.{success, invalidField}
+use Rattle.pages.specs.declared.Caps.{Caps}
+use Rattle.pages.specs.Pages.{hostPage, ctrlPage, telemetryPage, block, blocksOf, sizeOf, lastOf, topOf}
+use Rattle.words.specs.declared.Command.{Command}
+use Rattle.words.specs.declared.Words.{Words}
+use Rattle.words.specs.Words.{taken, builtOf}
+use Rattle.words.specs.Back.{meant, built-back}
+use Rattle.header.specs.Header.{headerOf}
+use Rattle.header.specs.Back.{header-length}
+use Rattle.records.specs.Records.{hostFields, ctrlFields, fieldsFor}
+use Rattle.records.specs.Back.{Sized}
+use Rattle.serving.specs.Serving.{windowOf, window-header}
+use Rattle.serving.specs.Runs.{window-area}
+use Rattle.verdicts.specs.declared.Lent.{Lent}
+use Rattle.verdicts.specs.Verdicts.{candidateOk, fieldBad, lastAfter, commandAnswer}
+use Rattle.verdicts.specs.Accepted.{Fair, accepts, beyond-refused, candidate-whole}
+use Rattle.controller.specs.Controller.{World, world, Candidate, storeFor, pageOf, hostCaptured, outcome, Outcome, lentBy, before, sentOf, afterwards, commandOf}
+use Rattle.controller.specs.Steps.{captured, no-capture, agreed-fits}
+use Rattle.controller.specs.Laws.{Agrees, Typed, create-typed, asked, verdict, command-done, command-refused}
+
+-- what a collection asks of a controller at setup, and what its own commands are lent
+pub record Ready (w : World) (bytes : ℕ) (buf : List ℕ) : Type 0 where
+  pub agrees : Agrees w
+  pub extended : w .drive .caps .ext ≡ true
+  pub telemetry : w .drive .caps .tel ≡ true
+  pub room : bytes ≤ length buf
+
+-- the words of a command
+abbrev pub sends : ℕ → Bool → ℕ → Bool → ℕ → ℕ → Words
+sends page create mcda rae offset blocks = builtOf page create mcda rae offset blocks .words
+
+asked-is : (w : World) (page : ℕ) (create : Bool) (mcda : ℕ) (rae : Bool) (offset blocks : ℕ) → w .drive .caps .ext ≡ true
+    → taken page create mcda offset blocks ≡ true
+    → asked w (sends page create mcda rae offset blocks) ≡ meant page create mcda rae offset blocks
+asked-is w page create mcda rae offset blocks e t =
+    rw e (built-back true page create mcda rae offset blocks t (λ n. clash refl n) .1)
+
+-- such words have no invalid field
+valid : (caps : Caps) (page : ℕ) (create : Bool) (mcda : ℕ) (rae : Bool) (offset blocks : ℕ) → caps .ext ≡ true → mcda ≤ 4
+    → fieldBad caps (meant page create mcda rae offset blocks) ≡ false
+unfolding fieldBad
+valid caps page create mcda rae offset blocks e m =
+    let whole : (512 * blocks) % 512 ≡ 0 = omega arith in
+    let placed : (512 * offset) % 512 ≡ 0 = omega arith in
+    rw (eq-eqb _ 0 whole, e, eq-eqb _ 0 placed, lt-leb 5 mcda (omega arith)) (none create (caps .mcdas))
+  where
+    none : (s t : Bool) → s && t && false ≡ false
+    none true true = refl
+    none true false = refl
+    none false t = refl
+
+page-taken : (page : ℕ) (create : Bool) (mcda offset blocks : ℕ) → taken page create mcda offset blocks ≡ true → telemetryPage page ≡ true
+unfolding taken
+page-taken page create mcda offset blocks t = each _ t 0
+
+mcda-taken : (page : ℕ) (create : Bool) (mcda offset blocks : ℕ) → taken page create mcda offset blocks ≡ true → mcda ≤ 4
+unfolding taken
+mcda-taken page create mcda offset blocks t = leb-true _ _ (each _ t 2)
+
+-- without create the last blocks are those that the page's header shows
+last-read : (w : World) (page : ℕ) (rae : Bool) (offset blocks : ℕ) (a : List ℕ)
+    → lastAfter (w .drive) (meant page false 0 rae offset blocks) a ≡ fieldsFor page (w .drive) .last
+unfolding lastAfter fieldsFor hostFields ctrlFields
+last-read w page rae offset blocks a = by-test (eqb page hostPage) (λ e. rw e) (λ e. rw e)
+
+-- ---- a read
+
+-- what a read of blocks from an offset leaves where it is served
+abbrev pub readDone : World → ℕ → Bool → ℕ → ℕ → List ℕ → Outcome
+readDone w page rae offset blocks buf =
+    outcome success 0 (afterwards w (meant page false 0 rae offset blocks))
+    (windowOf (block * offset) (block * blocks) (pageOf page w) ++ drop (block * blocks) buf)
+
+-- Served where the offset is within the page's size, refused with 1 where it is not.
+pub own-read : (w : World) (cand : Candidate) (page : ℕ) (rae : Bool) (offset blocks : ℕ) (buf : List ℕ)
+    → Ready w (block * blocks) buf → taken page false 0 offset blocks ≡ true
+    → commandOf w cand (sends page false 0 rae offset blocks) buf
+    ≡ pick (leb (block * offset) (sizeOf (w .drive .caps) (fieldsFor page (w .drive) .last))) (readDone w page rae offset blocks buf)
+    (outcome invalidField 0 w buf)
+unfolding sentOf before
+own-read w cand page rae offset blocks buf k t =
+    by-test (leb (block * offset) (sizeOf (w .drive .caps) (fieldsFor page (w .drive) .last)))
+    (λ h.
+    command-done w cand words buf (answer ∙ accepts (w .drive) c (cand .last) lent fair (rw (last-read w page rae offset blocks (cand .last)) (leb-true _ _ h)))
+    ∙ ap (λ (d : Command). outcome success 0 (afterwards (before w cand d) d) (sentOf (before w cand d) d buf)) e
+    ∙ rw h)
+    (λ h.
+    let v = answer ∙ beyond-refused (w .drive) c (cand .last) lent fair (rw (last-read w page rae offset blocks (cand .last)) (leb-false _ _ h)) in
+    command-refused w cand words buf (λ z. absurd (omega (arith, sym v ∙ z)))
+    ∙ rw (v, h))
+  where
+    words : Words
+    words = sends page false 0 rae offset blocks
+
+    c : Command
+    c = meant page false 0 rae offset blocks
+
+    lent : Lent
+    lent = lentBy w cand buf
+
+    e : asked w words ≡ c
+    e = asked-is w page false 0 rae offset blocks (k .extended) t
+
+    answer : verdict w cand words buf ≡ commandAnswer (w .drive) c (cand .last) lent
+    answer = ap (λ (d : Command). commandAnswer (w .drive) d (cand .last) lent) e
+
+    fair : Fair (w .drive) c (cand .last) lent
+    fair = record {
+      agrees = k .agrees;
+      served = page-taken page false 0 offset blocks t;
+      telemetry = k .telemetry;
+      valid = valid (w .drive .caps) page false 0 rae offset blocks (k .extended) (omega arith);
+      candidate = refl;
+      room = k .room;
+    }
+
+-- ---- the header
+
+-- with RAE 1, and on 07h, nothing is cleared
+pub retained : (w : World) (page : ℕ) (create : Bool) (mcda offset blocks : ℕ) → afterwards w (meant page create mcda true offset blocks) ≡ w
+unfolding afterwards
+retained w page create mcda offset blocks = by-test (eqb page ctrlPage) (λ e. rw e) (λ e. rw e)
+
+reason-long : (w : World) → Sized (w .drive) → (page : ℕ) → length (fieldsFor page (w .drive) .reason) ≡ 128
+unfolding fieldsFor hostFields ctrlFields
+reason-long w z page = by-test (eqb page hostPage) (λ e. rw e (z .host-reason)) (λ e. rw e (z .ctrl-reason))
+
+header-taken : (page : ℕ) → telemetryPage page ≡ true → taken page false 0 0 1 ≡ true
+unfolding taken holds
+header-taken page p = rw p
+
+window-of-header : (w : World) (page : ℕ) → length (headerOf (fieldsFor page (w .drive))) ≡ block → windowOf 0 block (pageOf page w) ≡ headerOf (fieldsFor page (w .drive))
+unfolding pageOf
+window-of-header w page e = window-header (headerOf (fieldsFor page (w .drive))) _ _ e
+
+-- A header command is always served, with the page's header.
+pub own-header : (w : World) (cand : Candidate) (page : ℕ) (rae : Bool) (buf : List ℕ) → Ready w block buf → Typed w → telemetryPage page ≡ true
+    → commandOf w cand (sends page false 0 rae 0 1) buf
+    ≡ outcome success 0 (afterwards w (meant page false 0 rae 0 1)) (headerOf (fieldsFor page (w .drive)) ++ drop block buf)
+own-header w cand page rae buf k z p =
+    own-read w cand page rae 0 1 buf k (header-taken page p)
+    ∙ rw (le-leb 0 (sizeOf (w .drive .caps) (fieldsFor page (w .drive) .last)) (omega arith))
+    (ap (λ (l : List ℕ). outcome success 0 (afterwards w (meant page false 0 rae 0 1)) (l ++ drop block buf))
+    (window-of-header w page (header-length (fieldsFor page (w .drive)) (reason-long w (z .sized) page))))
+
+-- ---- the first header with create
+
+create-taken : (mcda : ℕ) → mcda ≤ 4 → taken hostPage true mcda 0 1 ≡ true
+unfolding taken holds
+create-taken mcda h = rw (le-leb mcda 4 h)
+
+-- With a candidate that is not broken it captures and is served with the new page's header.
+pub own-create : (w : World) (cand : Candidate) (mcda : ℕ) (buf : List ℕ) → Ready w block buf → Typed w → mcda ≤ 4
+    → candidateOk (lastOf (topOf (w .drive .caps) mcda) (cand .last)) (cand .last) (length (cand .bytes)) (length (cand .reason)) (length (w .host)) ≡ true
+    → commandOf w cand (sends hostPage true mcda true 0 1) buf
+    ≡ outcome success 0 (hostCaptured w cand mcda) (headerOf (fieldsFor hostPage (hostCaptured w cand mcda .drive)) ++ drop block buf)
+unfolding sentOf
+own-create w cand mcda buf k y m f =
+    command-done w cand words buf (ap (λ (d : Command). commandAnswer (w .drive) d (cand .last) (lentBy w cand buf)) e ∙ accepts (w .drive) c (cand .last) (lentBy w cand buf) fair (omega arith))
+    ∙ ap (λ (d : Command). outcome success 0 (afterwards (before w cand d) d) (sentOf (before w cand d) d buf)) e
+    ∙ ap (λ (v : World). outcome success 0 (afterwards v c) (sentOf v c buf)) (captured w cand c refl)
+    ∙ ap (λ (v : World). outcome success 0 v (sentOf (hostCaptured w cand mcda) c buf)) (retained (hostCaptured w cand mcda) hostPage true mcda 0 1)
+    ∙ ap (λ (l : List ℕ). outcome success 0 (hostCaptured w cand mcda) (l ++ drop block buf)) (window-of-header (hostCaptured w cand mcda) hostPage long)
+  where
+    words : Words
+    words = sends hostPage true mcda true 0 1
+
+    c : Command
+    c = meant hostPage true mcda true 0 1
+
+    e : asked w words ≡ c
+    e = asked-is w hostPage true mcda true 0 1 (k .extended) (create-taken mcda m)
+
+    fair : Fair (w .drive) c (cand .last) (lentBy w cand buf)
+    fair = record {
+      agrees = k .agrees;
+      served = refl;
+      telemetry = k .telemetry;
+      valid = valid (w .drive .caps) hostPage true mcda true 0 1 (k .extended) m;
+      candidate = ap not f;
+      room = k .room;
+    }
+
+    long : length (headerOf (fieldsFor hostPage (hostCaptured w cand mcda .drive))) ≡ block
+    long =
+        header-length (fieldsFor hostPage (hostCaptured w cand mcda .drive))
+        (reason-long (hostCaptured w cand mcda) (create-typed w cand mcda y (candidate-whole _ _ _ _ _ f .long) .sized) hostPage)
+
+-- ---- the blocks of an area
+
+-- Blocks that lie within the page are the store's.
+pub own-blocks : (w : World) (page at n : ℕ) → Typed w → Agrees w → telemetryPage page ≡ true → 1 ≤ at
+    → at + n ≤ blocksOf (w .drive .caps) (fieldsFor page (w .drive) .last) + 1
+    → windowOf (block * at) (block * n) (pageOf page w) ≡ take (block * n) (drop (block * (at - 1)) (storeFor page w))
+unfolding pageOf
+own-blocks w page at n t g p one end =
+    window-area (headerOf (fieldsFor page (w .drive))) (storeFor page w) (blocksOf (w .drive .caps) (fieldsFor page (w .drive) .last)) at n
+    (header-length (fieldsFor page (w .drive)) (reason-long w (t .sized) page)) (agreed-fits w g page p) one end

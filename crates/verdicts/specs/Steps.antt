@@ -1,0 +1,26 @@
+-- The answer to a command from what its calls give, in variables: `cc` is quick here and meets a bound of its own in the function's proof.
+-- Assumes nothing.
+use Prim.Native.Nat.{ℕ}
+use mathlib.Core.Path.{_≡_, _∙_}
+use mathlib.Core.List.{List}
+use mathlib.Core.Bool.{Bool, not, _&&_}
+use lib.Dec.{ltb}
+use Rattle.pages.specs.Pages.{telemetryPage, lastOf, sizeOf, topOf}
+use Rattle.words.specs.declared.Command.{Command}
+use Rattle.records.specs.declared.Record.{Record}
+use Rattle.records.specs.Records.{agreesWith}
+use Rattle.verdicts.specs.declared.Lent.{Lent}
+use Rattle.verdicts.specs.Verdicts.{firstOf, commandOrder, candidateOk, fieldBad, lastAfter, commandAnswer}
+
+pub command-is : (r : Record) (c : Command) (a : List ℕ) (lent : Lent) {m kept s x : ℕ} {last : List ℕ} {g f k : Bool}
+    → m ≡ topOf (r .caps) (c .mcda)
+    → kept ≡ lastOf m a
+    → last ≡ lastAfter r c a
+    → g ≡ agreesWith r (lent .host) (lent .ctrl)
+    → f ≡ fieldBad (r .caps) c
+    → k ≡ candidateOk kept a (lent .bytes) (lent .reason) (lent .host)
+    → s ≡ sizeOf (r .caps) last
+    → x ≡ firstOf (commandOrder (not g) (not (telemetryPage (c .page) && r .caps .tel)) f (c .create && not k) (ltb s (c .offset)) (ltb (lent .buf) (c .bytes)))
+    → x ≡ commandAnswer r c a lent
+unfolding commandAnswer
+command-is r c a lent em ek el eg ef ec es ex = ex ∙ rw (eg, ef, ec, ek, em, es, el)
