@@ -2,6 +2,7 @@
 -- Assumes nothing.
 use Prim.Native.Nat.{ℕ, _≤_}
 use mathlib.Core.Bool.{Bool, true, false}
+use mathlib.Core.List.{List, [], _∷_}
 use mathlib.Core.Path.{_≡_, refl}
 use native.Mathlib.Omega.{arith}
 use lib.Dec.{leb}
@@ -11,6 +12,11 @@ use borrow.Author.Tests.{leb-true, leb-false}
 abbrev pub pick : {A : Type 0} → Bool → A → A → A
 pick true a b = a
 pick false a b = b
+
+-- the first of the row whose test holds, or what stands after the row: an order of refusals reads as its list
+abbrev pub firstThat : {A : Type 0} → List (Bool × A) → A → A
+firstThat [] last = last
+firstThat (r ∷ rs) last = pick (r .0) (r .1) (firstThat rs last)
 
 -- the smaller of two numbers
 abbrev pub smaller : ℕ → ℕ → ℕ

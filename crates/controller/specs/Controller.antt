@@ -1,8 +1,8 @@
 -- What a command and a capture do: document 01, "Captures" and "Answer numbers". A world is a record with both stores.
 -- Assumes nothing.
 use Prim.Native.Nat.{ℕ, _+_, _*_, _%_}
-use mathlib.Core.List.{List, [], _∷_, _++_}
-use mathlib.Core.Bool.{Bool, true, false, not, _&&_}
+use mathlib.Core.List.{List, [], _++_}
+use mathlib.Core.Bool.{true, false, not, _&&_}
 use lib.ListN.{length, take, drop}
 use lib.Dec.{eqb}
 use Rattle.basics.specs.Choice.{pick}

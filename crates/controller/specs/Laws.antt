@@ -1,30 +1,29 @@
 -- What any command and any capture keep: a refusal changes nothing, an agreeing world stays one, and nothing changes but by a create or
 -- an acknowledgement.
 -- Assumes nothing.
-use Prim.Native.Nat.{ℕ, _+_, _*_, _%_, _≤_, _<_}
+use Prim.Native.Nat.{ℕ, _*_, _<_}
 use mathlib.Core.Path.{_≡_, refl, sym, ap, subst, _∙_}
-use mathlib.Core.List.{List, [], _∷_, _++_}
-use mathlib.Core.Bool.{Bool, true, false, not, _&&_, _||_}
+use mathlib.Core.List.{List, []}
+use mathlib.Core.Bool.{Bool, true, false, not, _&&_}
 use native.Mathlib.Omega.{arith}
-use lib.ListN.{length, take, drop, getD}
+use lib.ListN.{length, take}
 use lib.Dec.{eqb}
 use borrow.Author.Tests.{eqb-true, eq-eqb, ne-eqb, eqb-false, not-true}
-use Rattle.basics.specs.Choice.{pick, pick-cases}
-use Rattle.basics.specs.Tests.{by-test, and-left, and-right, clash}
-use Rattle.parts.specs.Parts.{zeros, putAt, put-length}
+use Rattle.basics.specs.Choice.{pick-cases}
+use Rattle.basics.specs.Tests.{by-test, and-left, and-right}
+use Rattle.parts.specs.Parts.{zeros, put-length}
 use Rattle.answers.specs.Answers.{success}
-use Rattle.pages.specs.Pages.{hostPage, ctrlPage, block, most4, lastOk, lastOf, greatestOf, topOf, trimmedTo, trimOf}
-use Rattle.pages.specs.Trimmed.{InOrder, LastRule, trim-keeps-rule, trim-greatest, trim-three}
+use Rattle.pages.specs.Pages.{hostPage, ctrlPage, block, lastOf, greatestOf, topOf, trimmedTo, trimOf}
+use Rattle.pages.specs.Trimmed.{LastRule, trim-keeps-rule, trim-greatest, trim-three}
 use Rattle.words.specs.declared.Command.{Command}
 use Rattle.words.specs.declared.Words.{Words}
 use Rattle.words.specs.Words.{readOf}
-use Rattle.records.specs.declared.Record.{Record}
 use Rattle.records.specs.Records.{agreesWith}
-use Rattle.records.specs.Back.{Agreed, StoreFits, CtrlFits, Sized, agreed, agrees-where}
+use Rattle.records.specs.Back.{StoreFits, Sized, agreed, agrees-where}
 use Rattle.verdicts.specs.Verdicts.{commandAnswer, captureAnswer}
 use Rattle.verdicts.specs.Accepted.{Whole, Accepted, accepted, Captures, captures}
 use Rattle.controller.specs.Steps.{create-host, host-stays, captured, no-capture}
-use Rattle.controller.specs.Controller.{World, world, Candidate, hostTaken, ctrlTaken, clearedOf, hostCaptured, ctrlCaptured, outcome, Outcome, classFor, lentBy, before, sentOf, afterwards, answered, commandOf, captureAnswered, captureOf}
+use Rattle.controller.specs.Controller.{World, world, Candidate, clearedOf, hostCaptured, ctrlCaptured, outcome, Outcome, classFor, lentBy, before, sentOf, afterwards, answered, commandOf, captureAnswered, captureOf}
 
 -- what the words say, and the answer to that
 abbrev pub asked : World → Words → Command

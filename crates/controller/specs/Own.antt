@@ -1,11 +1,11 @@
 -- What the commands of a collection are answered: the builder's words, judged and served by an agreeing controller.
 -- Assumes nothing.
-use Prim.Native.Nat.{ℕ, _+_, _-_, _*_, _%_, _≤_, _<_}
-use mathlib.Core.Path.{_≡_, refl, sym, ap, subst, _∙_}
-use mathlib.Core.List.{List, [], _∷_, _++_}
-use mathlib.Core.Bool.{Bool, true, false, not, _&&_, _||_}
+use Prim.Native.Nat.{ℕ, _+_, _-_, _*_, _%_, _≤_}
+use mathlib.Core.Path.{_≡_, refl, sym, ap, _∙_}
+use mathlib.Core.List.{List, _++_}
+use mathlib.Core.Bool.{Bool, true, false, not, _&&_}
 use native.Mathlib.Omega.{arith}
-use lib.ListN.{length, take, drop, getD}
+use lib.ListN.{length, take, drop}
 use lib.Dec.{leb, eqb}
 use borrow.Author.Tests.{eq-eqb, leb-true, leb-false, le-leb, lt-leb}
 use Rattle.basics.specs.Choice.{pick}
@@ -26,8 +26,8 @@ use Rattle.serving.specs.Runs.{window-area}
 use Rattle.verdicts.specs.declared.Lent.{Lent}
 use Rattle.verdicts.specs.Verdicts.{candidateOk, fieldBad, lastAfter, commandAnswer}
 use Rattle.verdicts.specs.Accepted.{Fair, accepts, beyond-refused, candidate-whole}
-use Rattle.controller.specs.Controller.{World, world, Candidate, storeFor, pageOf, hostCaptured, outcome, Outcome, lentBy, before, sentOf, afterwards, commandOf}
-use Rattle.controller.specs.Steps.{captured, no-capture, agreed-fits}
+use Rattle.controller.specs.Controller.{World, Candidate, storeFor, pageOf, hostCaptured, outcome, Outcome, lentBy, before, sentOf, afterwards, commandOf}
+use Rattle.controller.specs.Steps.{captured, agreed-fits}
 use Rattle.controller.specs.Laws.{Agrees, Typed, create-typed, asked, verdict, command-done, command-refused}
 
 -- what a collection asks of a controller at setup, and what its own commands are lent

@@ -1,13 +1,13 @@
 -- What `command` and `capture` do, path by path, in variables: each function's proof hands over what its calls ensure.
 -- Assumes nothing.
-use Prim.Native.Nat.{ℕ, _+_, _*_, _≤_, _<_}
+use Prim.Native.Nat.{ℕ, _*_, _≤_}
 use mathlib.Core.Path.{_≡_, refl, sym, ap, subst, _∙_}
-use mathlib.Core.List.{List, [], _∷_, _++_}
-use mathlib.Core.Bool.{Bool, true, false, not, _&&_, _||_}
+use mathlib.Core.List.{List, []}
+use mathlib.Core.Bool.{Bool, true, false, not}
 use native.Mathlib.Omega.{arith}
-use lib.ListN.{length, take, drop, getD}
+use lib.ListN.{length, take}
 use lib.Dec.{eqb}
-use borrow.Author.Tests.{eqb-true, eq-eqb, ne-eqb}
+use borrow.Author.Tests.{eqb-true, ne-eqb}
 use Rattle.basics.specs.Choice.{pick, pick-cases}
 use Rattle.basics.specs.Tests.{and-left, or-cases}
 use Rattle.parts.specs.Parts.{zeros, putAt, put-length, put-whole}
@@ -22,11 +22,11 @@ use Rattle.header.specs.Header.{headerOf}
 use Rattle.records.specs.declared.Record.{Record}
 use Rattle.records.specs.Records.{agreesWith, hostFields, ctrlFields, fieldsFor}
 use Rattle.records.specs.Back.{agreed}
-use Rattle.serving.specs.Serving.{pageBytes, windowOf, servedInto, served-fits}
+use Rattle.serving.specs.Serving.{servedInto, served-fits}
 use Rattle.verdicts.specs.Verdicts.{commandAnswer, captureAnswer}
-use Rattle.verdicts.specs.Accepted.{Whole, Accepted, accepted, Captures, captures, kept-lent}
+use Rattle.verdicts.specs.Accepted.{Whole, Accepted, accepted, captures, kept-lent}
 use Rattle.controller.specs.declared.Answered.{Answered}
-use Rattle.controller.specs.Controller.{World, world, Candidate, candidate, storeFor, pageOf, hostTaken, ctrlTaken, clearedOf, hostCaptured, ctrlCaptured, outcome, Outcome, classFor, lentBy, before, sentOf, afterwards, answered, commandOf, captureAnswered, captureOf}
+use Rattle.controller.specs.Controller.{World, world, Candidate, storeFor, pageOf, hostTaken, ctrlTaken, clearedOf, hostCaptured, ctrlCaptured, outcome, Outcome, classFor, lentBy, before, sentOf, afterwards, answered, commandOf, captureAnswered, captureOf}
 
 -- ---- what the words say of create
 

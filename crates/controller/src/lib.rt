@@ -15,7 +15,7 @@ ghost use Prim.Native.Nat.{_*_, _≤_};
 ghost use lib.ListN.{length, take};
 ghost use Rattle.basics.specs.Choice.{pick};
 ghost use Rattle.parts.specs.Parts.{putAt, zeros};
-ghost use Rattle.pages.specs.Pages.{lastOf, topOf, trimOf, blocksOf};
+ghost use Rattle.pages.specs.Pages.{blocksOf};
 ghost use Rattle.header.specs.Header.{headerOf};
 ghost use Rattle.records.specs.Records.{fieldsFor};
 ghost use Rattle.serving.specs.Serving.{servedInto};

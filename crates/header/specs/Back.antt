@@ -1,22 +1,21 @@
 -- What is written is read back: the check of a header's bytes gives the fields that it was written from. One theorem over both pages.
 -- Assumes nothing.
-use Prim.Native.Nat.{ℕ, suc, _+_, _*_, _/_, _%_, _≤_, _<_}
+use Prim.Native.Nat.{ℕ, _+_, _<_}
 use mathlib.Core.Path.{_≡_, refl, sym, ap, _∙_}
 use mathlib.Core.List.{List, [], _∷_, _++_}
-use mathlib.Core.Bool.{Bool, true, false, _&&_, _||_}
+use mathlib.Core.Bool.{Bool, true, false}
 use native.Mathlib.Omega.{arith}
-use lib.ListN.{length, getD, take, drop}
+use lib.ListN.{length, getD, take}
 use lib.Seq.{take-all}
-use lib.Dec.{eqb, leb, ltb}
+use lib.Dec.{eqb}
 use borrow.Author.Tests.{eq-eqb, ne-eqb}
 use Rattle.basics.specs.Choice.{pick}
 use Rattle.basics.specs.Numbers.{value-back}
-use Rattle.basics.specs.Tests.{each, clash}
+use Rattle.basics.specs.Tests.{each}
 use Rattle.pages.specs.Pages.{hostPage, block}
 use Rattle.pages.specs.Trimmed.{LastRule, last-rule}
 use Rattle.answers.specs.Answers.{success}
 use Rattle.header.specs.declared.Fields.{Fields}
-use Rattle.header.specs.declared.Checked.{Checked}
 use Rattle.header.specs.Header.{marks, front, headerOf, lastAt, fieldsOf, fieldsOk, noFields, checkOf}
 
 -- a header is its front with the reason in place of the zeros

@@ -7,7 +7,6 @@ ghost use mathlib.Core.List.{_++_};
 ghost use Prim.Native.Nat.{_+_, _*_};
 ghost use lib.ListN.{length, take, drop};
 ghost use Rattle.basics.specs.Choice.{pick};
-ghost use Rattle.basics.specs.Numbers.{valueOf};
 ghost use Rattle.answers.specs.Answers.{success};
 ghost use Rattle.header.specs.Header.{front, marks, headerOf, lastAt, fieldsOf, fieldsOk, noFields, checkOf};
 

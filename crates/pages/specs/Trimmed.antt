@@ -1,13 +1,13 @@
 -- What the rule of last blocks says of the numbers, and that trimming a candidate gives last blocks that keep it.
 -- Assumes nothing.
-use Prim.Native.Nat.{ℕ, zero, suc, _+_, _*_, _≤_, _<_}
-use mathlib.Core.Path.{_≡_, refl, sym, ap, _∙_}
+use Prim.Native.Nat.{ℕ, zero, suc, _≤_}
+use mathlib.Core.Path.{_≡_, refl}
 use mathlib.Core.List.{List, [], _∷_}
 use mathlib.Core.Bool.{Bool, true, false, _&&_, _||_}
 use native.Mathlib.Omega.{arith}
 use lib.ListN.{getD}
 use lib.Dec.{ltb, leb, eqb}
-use borrow.Author.Tests.{leb-true, ltb-true, eqb-true, le-leb, lt-ltb, eq-eqb, ne-eqb, leb-false}
+use borrow.Author.Tests.{leb-true, ltb-true, eqb-true, le-leb, lt-ltb, eq-eqb, leb-false}
 use Rattle.basics.specs.Choice.{pick, pick-cases, smaller, larger, larger-left, larger-right}
 use Rattle.basics.specs.Tests.{holds, each, and-left, and-right, or-cases, clash}
 use Rattle.pages.specs.declared.Caps.{Caps}

@@ -5,7 +5,7 @@
 // whose numbers are in order gives last blocks that keep the rule (specs/Trimmed.antt).
 ghost use mathlib.Core.Path.{_≡_};
 ghost use Prim.Native.Nat.{_+_, _*_};
-ghost use Rattle.pages.specs.Pages.{block, area4Ok, lastOk, lastOf, greatestOf, area4, blocksOf, sizeOf, topOf, trimmedTo, trimOf};
+ghost use Rattle.pages.specs.Pages.{block, area4Ok, lastOk, lastOf, greatestOf, blocksOf, sizeOf, topOf, trimmedTo, trimOf};
 
 // Telemetry host-initiated.
 pub const HOST: u8 = 0x07;

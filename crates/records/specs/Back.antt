@@ -2,22 +2,20 @@
 -- by the host to exactly what it was written from, on both pages.
 -- Assumes nothing.
 use Prim.Native.Nat.{ℕ, zero, suc, _*_, _≤_, _<_}
-use mathlib.Core.Path.{_≡_, refl, sym, ap, _∙_}
-use mathlib.Core.List.{List, [], _∷_}
-use mathlib.Core.Bool.{Bool, true, false, not, _&&_, _||_}
+use mathlib.Core.Path.{_≡_, refl}
+use mathlib.Core.List.{List}
+use mathlib.Core.Bool.{Bool, true, false, _||_}
 use native.Mathlib.Omega.{arith}
 use lib.ListN.{length, getD}
-use lib.Dec.{ltb, leb, eqb}
+use lib.Dec.{ltb, eqb}
 use borrow.Author.Tests.{leb-true, ltb-true, eqb-true, le-leb, lt-ltb, eq-eqb}
-use Rattle.basics.specs.Choice.{pick}
 use Rattle.basics.specs.Tests.{holds, each, or-cases, clash, implied, implies}
-use Rattle.parts.specs.Parts.{length-zeros}
 use Rattle.answers.specs.Answers.{success}
 use Rattle.pages.specs.Pages.{hostPage, ctrlPage, telemetryPage, block, area4Ok, lastOk, greatestOf}
 use Rattle.pages.specs.Trimmed.{LastRule, last-rule, rule-last}
 use Rattle.pages.specs.declared.Caps.{Caps}
 use Rattle.header.specs.Header.{headerOf, fieldsOk, checkOf}
-use Rattle.header.specs.Back.{Carried, header-reads-back}
+use Rattle.header.specs.Back.{header-reads-back}
 use Rattle.records.specs.declared.Identity.{Identity}
 use Rattle.records.specs.declared.Record.{Record}
 use Rattle.records.specs.Records.{identityOk, storeOk, ctrlOk, agreesWith, hostFields, ctrlFields, fieldsFor, freshOf}

@@ -2,7 +2,7 @@
 -- Assumes nothing.
 use Prim.Native.Nat.{ℕ, _*_}
 use mathlib.Core.List.{List, [], _∷_}
-use mathlib.Core.Bool.{Bool, true, false, not, _&&_, _||_}
+use mathlib.Core.Bool.{Bool, false, not, _||_}
 use lib.ListN.{getD}
 use lib.Dec.{ltb, leb, eqb}
 use Rattle.basics.specs.Choice.{pick}
@@ -12,8 +12,6 @@ use Rattle.pages.specs.Pages.{hostPage, ctrlPage, block, lastOk, greatestOf}
 use Rattle.pages.specs.declared.Caps.{Caps}
 use Rattle.header.specs.declared.Fields.{Fields}
 use Rattle.records.specs.declared.Identity.{Identity}
-use Rattle.records.specs.declared.HostPage.{HostPage}
-use Rattle.records.specs.declared.CtrlPage.{CtrlPage}
 use Rattle.records.specs.declared.Record.{Record}
 
 -- both scopes are 1 or 2, and the OUI has 24 bits

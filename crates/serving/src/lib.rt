@@ -6,8 +6,7 @@ ghost use mathlib.Core.Path.{_≡_};
 ghost use mathlib.Core.List.{_++_};
 ghost use Prim.Native.Nat.{_+_, _*_, _≤_};
 ghost use lib.ListN.{length, take, drop};
-ghost use Rattle.parts.specs.Parts.{zeros};
-ghost use Rattle.serving.specs.Serving.{Lesser, windowOf, pageBytes, servedInto};
+ghost use Rattle.serving.specs.Serving.{Lesser, windowOf, servedInto};
 ghost use Rattle.serving.specs.Runs.{runsOf};
 
 fn lesser(a: usize, b: usize) -> usize

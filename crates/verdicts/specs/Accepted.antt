@@ -1,23 +1,23 @@
 -- What an answer of 0 tells of the numbers, and what gives an answer of 0.
 -- Assumes nothing.
-use Prim.Native.Nat.{ℕ, zero, suc, _+_, _*_, _≤_, _<_}
-use mathlib.Core.Path.{_≡_, refl, sym, ap, _∙_}
-use mathlib.Core.List.{List, [], _∷_}
-use mathlib.Core.Bool.{Bool, true, false, not, _&&_, _||_}
+use Prim.Native.Nat.{ℕ, suc, _*_, _≤_, _<_}
+use mathlib.Core.Path.{_≡_, refl, ap}
+use mathlib.Core.List.{List}
+use mathlib.Core.Bool.{Bool, true, false, not, _&&_}
 use native.Mathlib.Omega.{arith}
-use lib.ListN.{length, getD}
+use lib.ListN.{getD}
 use lib.Dec.{ltb, leb, eqb}
 use borrow.Author.Tests.{leb-true, ltb-true, ltb-false, eqb-true, le-ltb, lt-ltb, not-false}
 use Rattle.basics.specs.Choice.{pick}
 use Rattle.basics.specs.Tests.{each, and-left, and-right, or-cases, clash}
 use Rattle.answers.specs.Answers.{success, invalidField}
-use Rattle.pages.specs.Pages.{telemetryPage, block, most3, most4, lastOf, sizeOf, topOf}
+use Rattle.pages.specs.Pages.{telemetryPage, block, most4, lastOf, sizeOf, topOf}
 use Rattle.pages.specs.Trimmed.{InOrder, last-most}
 use Rattle.words.specs.declared.Command.{Command}
 use Rattle.records.specs.declared.Record.{Record}
 use Rattle.records.specs.Records.{agreesWith}
 use Rattle.verdicts.specs.declared.Lent.{Lent}
-use Rattle.verdicts.specs.Verdicts.{firstOf, commandOrder, candidateOk, fieldBad, lastAfter, commandAnswer, captureAnswer}
+use Rattle.verdicts.specs.Verdicts.{commandOrder, candidateOk, fieldBad, lastAfter, commandAnswer, captureAnswer}
 
 -- a candidate that is not broken, kept being the last block that is kept of it
 pub record Whole (kept : ℕ) (a : List ℕ) (bytes reason store : ℕ) : Type 0 where
@@ -94,11 +94,11 @@ accepted r c a lent e =
 
 -- where no test holds the answer is success
 silent : {d u i b y s : Bool} → d ≡ false → u ≡ false → i ≡ false → b ≡ false → y ≡ false → s ≡ false
-    → firstOf (commandOrder d u i b y s) ≡ success
+    → commandOrder d u i b y s ≡ success
 silent d u i b y s = rw (d, u, i, b, y, s)
 
 silent-but-fifth : {d u i b y : Bool} (s : Bool) → d ≡ false → u ≡ false → i ≡ false → b ≡ false → y ≡ true
-    → firstOf (commandOrder d u i b y s) ≡ invalidField
+    → commandOrder d u i b y s ≡ invalidField
 silent-but-fifth s d u i b y = rw (d, u, i, b, y)
 
 both : (a b : Bool) → a ≡ true → b ≡ true → a && b ≡ true

@@ -10,7 +10,7 @@ use Rattle.words.specs.declared.Command.{Command}
 use Rattle.records.specs.declared.Record.{Record}
 use Rattle.records.specs.Records.{agreesWith}
 use Rattle.verdicts.specs.declared.Lent.{Lent}
-use Rattle.verdicts.specs.Verdicts.{firstOf, commandOrder, candidateOk, fieldBad, lastAfter, commandAnswer}
+use Rattle.verdicts.specs.Verdicts.{commandOrder, candidateOk, fieldBad, lastAfter, commandAnswer}
 
 pub command-is : (r : Record) (c : Command) (a : List ℕ) (lent : Lent) {m kept s x : ℕ} {last : List ℕ} {g f k : Bool}
     → m ≡ topOf (r .caps) (c .mcda)
@@ -20,7 +20,7 @@ pub command-is : (r : Record) (c : Command) (a : List ℕ) (lent : Lent) {m kept
     → f ≡ fieldBad (r .caps) c
     → k ≡ candidateOk kept a (lent .bytes) (lent .reason) (lent .host)
     → s ≡ sizeOf (r .caps) last
-    → x ≡ firstOf (commandOrder (not g) (not (telemetryPage (c .page) && r .caps .tel)) f (c .create && not k) (ltb s (c .offset)) (ltb (lent .buf) (c .bytes)))
+    → x ≡ commandOrder (not g) (not (telemetryPage (c .page) && r .caps .tel)) f (c .create && not k) (ltb s (c .offset)) (ltb (lent .buf) (c .bytes))
     → x ≡ commandAnswer r c a lent
 unfolding commandAnswer
 command-is r c a lent em ek el eg ef ec es ex = ex ∙ rw (eg, ef, ec, ek, em, es, el)

@@ -2,10 +2,10 @@
 -- Assumes nothing.
 use Prim.Native.Nat.{ℕ, _*_, _%_}
 use mathlib.Core.List.{List, [], _∷_}
-use mathlib.Core.Bool.{Bool, true, false, not, _&&_, _||_}
+use mathlib.Core.Bool.{Bool, not, _&&_, _||_}
 use lib.ListN.{getD}
 use lib.Dec.{ltb, leb, eqb}
-use Rattle.basics.specs.Choice.{pick}
+use Rattle.basics.specs.Choice.{pick, firstThat}
 use Rattle.basics.specs.Tests.{holds}
 use Rattle.answers.specs.Answers.{success, invalidField, invalidLogPage, shortBuffer, disagree, brokenCandidate}
 use Rattle.pages.specs.declared.Caps.{Caps}
@@ -15,32 +15,20 @@ use Rattle.records.specs.declared.Record.{Record}
 use Rattle.records.specs.Records.{agreesWith}
 use Rattle.verdicts.specs.declared.Lent.{Lent}
 
--- ---- orders of refusals
-
--- a test and the answer that it gives
-pub record Refusal : Type 0 where
-  pub when : Bool
-  pub answer : ℕ
-
-infix 70 _gives_
-abbrev pub _gives_ : Bool → ℕ → Refusal
-t gives n = record { when = t; answer = n }
-
--- the first test that holds gives the answer; where none does, success
-abbrev pub firstOf : List Refusal → ℕ
-firstOf [] = success
-firstOf (r ∷ rs) = pick (r .when) (r .answer) (firstOf rs)
+-- ---- the order of refusals
 
 -- for a command: 4; 2; then 1; then 5; then 1 for an offset greater than the size; then 3
-abbrev pub commandOrder : Bool → Bool → Bool → Bool → Bool → Bool → List Refusal
+abbrev pub commandOrder : Bool → Bool → Bool → Bool → Bool → Bool → ℕ
 commandOrder disagrees unserved invalid broken beyond short =
-    disagrees gives disagree
-    ∷ unserved gives invalidLogPage
-    ∷ invalid gives invalidField
-    ∷ broken gives brokenCandidate
-    ∷ beyond gives invalidField
-    ∷ short gives shortBuffer
-    ∷ []
+    firstThat
+    ((disagrees, disagree)
+    ∷ (unserved, invalidLogPage)
+    ∷ (invalid, invalidField)
+    ∷ (broken, brokenCandidate)
+    ∷ (beyond, invalidField)
+    ∷ (short, shortBuffer)
+    ∷ [])
+    success
 
 -- ---- their tests
 
@@ -77,15 +65,15 @@ lastAfter r c a = pick (eqb (c .page) hostPage) (pick (c .create) (trimOf (r .ca
 -- to a command with the candidate's last blocks a
 unfoldable pub commandAnswer : Record → Command → List ℕ → Lent → ℕ
 commandAnswer r c a lent =
-    firstOf
-    (commandOrder (not (agreesWith r (lent .host) (lent .ctrl))) (not (telemetryPage (c .page) && r .caps .tel)) (fieldBad (r .caps) c)
+    commandOrder (not (agreesWith r (lent .host) (lent .ctrl))) (not (telemetryPage (c .page) && r .caps .tel)) (fieldBad (r .caps) c)
     (c .create && not (candidateOk (lastOf (topOf (r .caps) (c .mcda)) a) a (lent .bytes) (lent .reason) (lent .host)))
-    (ltb (sizeOf (r .caps) (lastAfter r c a)) (c .offset)) (ltb (lent .buf) (c .bytes)))
+    (ltb (sizeOf (r .caps) (lastAfter r c a)) (c .offset)) (ltb (lent .buf) (c .bytes))
 
 -- to a capture on 08h: 4, then 5, a candidate with a3 = 0 being broken there
 unfoldable pub captureAnswer : Record → List ℕ → Lent → ℕ
 captureAnswer r a lent =
-    firstOf
-    (not (agreesWith r (lent .host) (lent .ctrl)) gives disagree
-    ∷ not (candidateOk (lastOf (topOf (r .caps) 0) a) a (lent .bytes) (lent .reason) (lent .ctrl) && ltb 0 (getD a 2 0)) gives brokenCandidate
+    firstThat
+    ((not (agreesWith r (lent .host) (lent .ctrl)), disagree)
+    ∷ (not (candidateOk (lastOf (topOf (r .caps) 0) a) a (lent .bytes) (lent .reason) (lent .ctrl) && ltb 0 (getD a 2 0)), brokenCandidate)
     ∷ [])
+    success

@@ -6,7 +6,7 @@ use pages::Caps;
 use records::Record;
 use words::Command;
 ghost use mathlib.Core.Path.{_≡_};
-ghost use Rattle.verdicts.specs.Verdicts.{firstOf, commandOrder, candidateOk, fieldBad, lastAfter, commandAnswer, captureAnswer};
+ghost use Rattle.verdicts.specs.Verdicts.{commandOrder, candidateOk, fieldBad, lastAfter, commandAnswer, captureAnswer};
 
 // The bytes of what is lent: both stores, the candidate's bytes and its reason, and the transfer buffer.
 pub struct Lent {
@@ -66,7 +66,7 @@ fn first(
     beyond: bool,
     short: bool,
 ) -> u8
-    ensures { λ r. ⌜ r ≡ firstOf (commandOrder disagree unserved invalid broken beyond short) ⌝ }
+    ensures { λ r. ⌜ r ≡ commandOrder disagree unserved invalid broken beyond short ⌝ }
 {
     if disagree {
         return answers::DISAGREE;

@@ -4,8 +4,8 @@
 --     CDW12, CDW13: offset, low and high 32 bits. CDW14 bit 23: offset type.
 -- Assumes nothing.
 use Prim.Native.Nat.{ℕ, _+_, _-_, _*_, _/_, _%_}
-use mathlib.Core.List.{List, [], _∷_}
-use mathlib.Core.Bool.{Bool, true, false, not, _&&_, _||_}
+use mathlib.Core.List.{[], _∷_}
+use mathlib.Core.Bool.{Bool, not, _&&_, _||_}
 use lib.Dec.{leb, eqb}
 use Rattle.basics.specs.Choice.{pick}
 use Rattle.basics.specs.Numbers.{bits}

@@ -3,10 +3,8 @@
 // It rests on basics, answers and pages. It promises that any five words are read to what specs/Words.antt says, that the builder gives the words of
 // its arguments or 13 with five zero words, and that what it builds is read back to the arguments (specs/Back.antt).
 ghost use mathlib.Core.Path.{_≡_};
-ghost use mathlib.Core.Bool.{_&&_, _||_};
 ghost use Prim.Native.Nat.{_+_, _-_, _*_, _/_, _%_, _≤_};
 ghost use Rattle.basics.specs.Choice.{pick};
-ghost use Rattle.basics.specs.Numbers.{bits};
 ghost use Rattle.words.specs.Words.{longBytes, shortBytes, offsetOf, readOf, taken, packedOf, noWords, builtOf};
 ghost use Rattle.words.specs.Back.{Bounds};
 
