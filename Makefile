@@ -9,9 +9,10 @@ test:
 	@tests/run
 
 demo:
-	@rt check vectors commands
-	@target/bin/vectors
+	@rt check commands listing endings
 	@target/bin/commands
+	@target/bin/listing
+	@target/bin/endings
 	@echo 'The collection from an embedded drive, which this command is to show, is not there yet.'
 
 bench: build/bench_serving

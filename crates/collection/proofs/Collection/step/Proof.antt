@@ -1,0 +1,31 @@
+-- `collection::Collection::step` meets its contract: it is the decision on what was seen, and the copy is touched as decided.
+-- Assumes nothing.
+use mathlib.Core.Path.{_∙_}
+use borrow.Author.Needs.{needs}
+use Rattle.collection.specs.Collection.{stepOf, copyAfter, lookOf}
+use Rattle.collection.proofs.Collection.step.Statement.{statement}
+use Rattle.collection.proofs.Collection.step.Tie as tie
+
+look-requires : tie.Need-look-requires
+look-requires c κs = search needs
+
+decide-requires : tie.Need-decide-requires
+decide-requires c κs = search needs
+
+move-bytes-requires : tie.Need-move-bytes-requires
+move-bytes-requires c κs = search needs
+
+same-length : tie.Need-same-length
+same-length c = search needs
+
+returns : tie.Need-returns
+unfolding stepOf copyAfter lookOf
+returns c = (
+  rw (c .before .before .before .before .before .decide .ensures, c .before .before .before .before .before .before .look .ensures),
+  c .before .before .before .move-bytes .ensures
+      ∙ rw (c .before .before .before .before .before .decide .ensures, c .before .before .before .before .before .before .look .ensures),
+)
+
+pub step-spec : {M : Type 1} → statement M
+step-spec =
+    tie.close (tie.spec look-requires decide-requires move-bytes-requires same-length returns)

@@ -1,0 +1,4 @@
+pub mod Collection
+pub mod Laws
+pub mod Steps
+pub mod Copied

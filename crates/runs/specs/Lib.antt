@@ -1,0 +1,5 @@
+pub mod Run
+pub mod Counted
+pub mod Ended
+pub mod Retained
+pub mod Listing

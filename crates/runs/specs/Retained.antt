@@ -1,0 +1,312 @@
+-- Which commands of a run carry RAE and create, whatever completes them: all but the last have RAE 1, and on 07h the last one too; create is
+-- sent with the first command alone.
+-- Assumes nothing.
+use Prim.Native.Nat.{ℕ, _+_}
+use mathlib.Core.Path.{_≡_, refl, sym, ap, subst, _∙_}
+use mathlib.Core.List.{List, [], _∷_, _++_}
+use mathlib.Core.Bool.{Bool, true, false}
+use native.Mathlib.Omega.{arith}
+use lib.ListN.{length}
+use lib.Dec.{leb}
+use Rattle.basics.specs.Choice.{pick-cases}
+use Rattle.basics.specs.Tests.{clash}
+use Rattle.answers.specs.Answers.{success}
+use Rattle.parts.specs.Parts.{zeros}
+use Rattle.pages.specs.Pages.{hostPage, ctrlPage, most4}
+use Rattle.words.specs.declared.Command.{Command}
+use Rattle.words.specs.declared.Words.{Words}
+use Rattle.words.specs.Words.{readOf}
+use Rattle.course.specs.declared.Plan.{Plan}
+use Rattle.course.specs.declared.Phase.{Phase}
+use Rattle.course.specs.declared.Phase.the-variants.{First, Chunk, Close, CloseRefused, Ack, Ended}
+use Rattle.course.specs.declared.Seen.{Seen}
+use Rattle.course.specs.declared.Move.{Move}
+use Rattle.course.specs.Course.{setupAnswer, areaLast, phaseAt, endedBy}
+use Rattle.course.specs.Awaited.{commandBy}
+use Rattle.collection.specs.declared.Collection.{Collection}
+use Rattle.collection.specs.declared.Next.{Next}
+use Rattle.collection.specs.declared.Next.the-variants.{Send, Ended as Ends, Refused}
+use Rattle.collection.specs.declared.Stepped.{Stepped}
+use Rattle.collection.specs.Collection.{awaitedOf, refusalOf, lookOf, moveOf, actOf, beginning}
+use Rattle.collection.specs.Laws.{same-or-not, closingBy, move-cases}
+use Rattle.collection.specs.Steps.{awaited-taken, setup-taken, refused-step, taken-step}
+use Rattle.runs.specs.Run.{Completion, stepBy, given, play, recordOf}
+use Rattle.runs.specs.Counted.{step-counts}
+use Rattle.runs.specs.Ended.{Reached, reached-ok, step-house, begins}
+
+-- all commands of a list, and all but its last one
+abbrev pub All : (Words → Type 0) → List Words → Type 0
+All P [] = Unit
+All P (w ∷ ws) = P w × All P ws
+
+abbrev pub AllButLast : (Words → Type 0) → List Words → Type 0
+AllButLast P [] = Unit
+AllButLast P (w ∷ []) = Unit
+AllButLast P (w ∷ v ∷ ws) = P w × AllButLast P (v ∷ ws)
+
+abbrev pub AllButFirst : (Words → Type 0) → List Words → Type 0
+AllButFirst P [] = Unit
+AllButFirst P (w ∷ ws) = All P ws
+
+-- RAE is 1
+abbrev pub Retains : Words → Type 0
+Retains w = readOf true w .rae ≡ true
+
+-- create is not set
+abbrev pub NoCreate : Words → Type 0
+NoCreate w = readOf true w .create ≡ false
+
+-- a phase that a step can lead to with a command
+abbrev laterBy : Phase → Bool
+laterBy First = false
+laterBy (Chunk at) = true
+laterBy Close = true
+laterBy CloseRefused = true
+laterBy Ack = true
+laterBy Ended = false
+
+-- the acknowledgement is awaited
+abbrev ackBy : Phase → Bool
+ackBy First = false
+ackBy (Chunk at) = false
+ackBy Close = false
+ackBy CloseRefused = false
+ackBy Ack = true
+ackBy Ended = false
+
+-- the acknowledgement or nothing is awaited: no step sends a command
+abbrev silentBy : Phase → Bool
+silentBy First = false
+silentBy (Chunk at) = false
+silentBy Close = false
+silentBy CloseRefused = false
+silentBy Ack = true
+silentBy Ended = true
+
+closing-loud : (f : Phase) → closingBy f ≡ true → silentBy f ≡ false
+closing-loud First e = refl
+closing-loud (Chunk at) e = refl
+closing-loud Close e = refl
+closing-loud CloseRefused e = refl
+closing-loud Ack e = clash {t = true} refl (sym e)
+closing-loud Ended e = clash {t = true} refl (sym e)
+
+loud-no-ack : (f : Phase) → silentBy f ≡ false → ackBy f ≡ false
+loud-no-ack First e = refl
+loud-no-ack (Chunk at) e = refl
+loud-no-ack Close e = refl
+loud-no-ack CloseRefused e = refl
+loud-no-ack Ack e = e
+loud-no-ack Ended e = refl
+
+later-going : (f : Phase) → laterBy f ≡ true → endedBy f ≡ false
+later-going First e = refl
+later-going (Chunk at) e = refl
+later-going Close e = refl
+later-going CloseRefused e = refl
+later-going Ack e = refl
+later-going Ended e = sym e
+
+at-later : (at b : ℕ) → laterBy (phaseAt at b) ≡ true
+unfolding phaseAt
+at-later at b = pick-cases (λ (f : Phase). laterBy f ≡ true) (leb at b) (λ e. refl) (λ e. refl)
+
+at-no-ack : (at b : ℕ) → ackBy (phaseAt at b) ≡ false
+unfolding phaseAt
+at-no-ack at b = pick-cases (λ (f : Phase). ackBy f ≡ false) (leb at b) (λ e. refl) (λ e. refl)
+
+-- ---- a command that a step gives
+
+-- it is the one that the state after it awaits; the acknowledgement is given on 08h alone
+record Gives (s : Collection) (x : Stepped) (w : Words) : Type 0 where
+  awaits : w ≡ awaitedOf (x .state)
+  later : laterBy (x .state .phase) ≡ true
+  ack : ackBy (x .state .phase) ≡ true → s .plan .page ≡ ctrlPage
+
+sends : {v w : Words} → Send v ≡ Send w → w ≡ v
+sends q = cc
+
+abbrev Gave : Collection → Seen → Words → Move → Type 0
+Gave s h w m = actOf s h m .stepped .next ≡ Send w → Gives s (actOf s h m .stepped) w
+
+gave : (s : Collection) (ok : Bool) (h : Seen) (w : Words) → Gave s h w (moveOf s ok h)
+unfolding actOf awaitedOf
+gave s ok h w = move-cases (Gave s h w) s ok h (record {
+  fail = λ n l q. let z : _≡_ {A = ℕ} 0 1 = cc in absurd (omega arith);
+  large = λ f l q. let z : _≡_ {A = ℕ} 0 1 = cc in absurd (omega arith);
+  first = λ f r q. record {
+    awaits = sends q;
+    later = at-later 1 (areaLast (s .plan) (h .last));
+    ack = λ a. clash a (at-no-ack 1 (areaLast (s .plan) (h .last)));
+  };
+  again = λ f l r q. record {
+    awaits = sends q;
+    later = at-later 1 (areaLast (s .plan) (h .last));
+    ack = λ a. clash a (at-no-ack 1 (areaLast (s .plan) (h .last)));
+  };
+  more = λ at f y q. record {
+    awaits = sends q;
+    later = at-later (at + s .plan .chunk) (areaLast (s .plan) (s .last));
+    ack = λ a. clash a (at-no-ack (at + s .plan .chunk) (areaLast (s .plan) (s .last)));
+  };
+  skip = λ at f q. record { awaits = sends q; later = refl; ack = λ a. clash {t = true} refl (sym a) };
+  acknowledge = λ f p q. record { awaits = sends q; later = refl; ack = λ a. p };
+  stand = λ f q. let z : _≡_ {A = ℕ} 0 1 = cc in absurd (omega arith);
+  done = λ f q. let z : _≡_ {A = ℕ} 0 1 = cc in absurd (omega arith);
+})
+
+step-gives : (s : Collection) (k : Completion) (w : Words) → stepBy s k .next ≡ Send w → Gives s (stepBy s k) w
+step-gives s k w q =
+    same-or-not (refusalOf s (k .ok) (length (k .bytes)) (k .copy)) success
+    (λ e.
+    let t = taken-step s (k .ok) (k .bytes) (k .copy) e in
+    rw t (gave s (k .ok) (lookOf s (k .bytes)) w (rw t at q)))
+    (λ e.
+    let p = rw (refused-step s (k .ok) (k .bytes) (k .copy) e) at q in
+    let z : _≡_ {A = ℕ} 0 1 = cc in
+    absurd (omega arith))
+
+-- ---- what such a command says
+
+rae-by : (f : Phase) (p : Plan) (last : List ℕ) → ackBy f ≡ false → commandBy f p last .rae ≡ true
+unfolding commandBy
+rae-by First p last e = refl
+rae-by (Chunk at) p last e = refl
+rae-by Close p last e = refl
+rae-by CloseRefused p last e = refl
+rae-by Ack p last e = clash {t = true} refl e
+rae-by Ended p last e = refl
+
+create-by : (f : Phase) (p : Plan) (last : List ℕ) → laterBy f ≡ true → commandBy f p last .create ≡ false
+unfolding commandBy
+create-by First p last e = clash {t = true} refl (sym e)
+create-by (Chunk at) p last e = refl
+create-by Close p last e = refl
+create-by CloseRefused p last e = refl
+create-by Ack p last e = refl
+create-by Ended p last e = refl
+
+awaited-reads : (s : Collection) → Reached most4 s → endedBy (s .phase) ≡ false → readOf true (awaitedOf s) ≡ commandBy (s .phase) (s .plan) (s .last)
+unfolding awaitedOf
+awaited-reads s r g = awaited-taken s (reached-ok s r) g .reads
+
+given-reads : (s : Collection) (k : Completion) (w : Words) → Reached most4 s → stepBy s k .next ≡ Send w
+    → readOf true w ≡ commandBy (stepBy s k .state .phase) (stepBy s k .state .plan) (stepBy s k .state .last)
+given-reads s k w r q =
+    let g = step-gives s k w q in
+    rw (g .awaits) (awaited-reads (stepBy s k .state) (step-house s k r) (later-going (stepBy s k .state .phase) (g .later)))
+
+given-rae : (s : Collection) (k : Completion) (w : Words) → Reached most4 s → stepBy s k .next ≡ Send w
+    → ackBy (stepBy s k .state .phase) ≡ false → Retains w
+given-rae s k w r q a =
+    ap (λ (c : Command). c .rae) (given-reads s k w r q)
+    ∙ rae-by (stepBy s k .state .phase) (stepBy s k .state .plan) (stepBy s k .state .last) a
+
+given-create : (s : Collection) (k : Completion) (w : Words) → Reached most4 s → stepBy s k .next ≡ Send w → NoCreate w
+given-create s k w r q =
+    ap (λ (c : Command). c .create) (given-reads s k w r q)
+    ∙ create-by (stepBy s k .state .phase) (stepBy s k .state .plan) (stepBy s k .state .last) (step-gives s k w q .later)
+
+-- ---- after the acknowledgement no command is sent
+
+record Silent (x : Stepped) : Type 0 where
+  gives : given (x .next) ≡ []
+  stays : silentBy (x .state .phase) ≡ true
+
+silent : (s : Collection) (ok : Bool) (h : Seen) → silentBy (s .phase) ≡ true → Silent (actOf s h (moveOf s ok h) .stepped)
+unfolding actOf
+silent s ok h e = move-cases (λ (m : Move). Silent (actOf s h m .stepped)) s ok h (record {
+  fail = λ n l. record { gives = refl; stays = refl };
+  large = λ f l. record { gives = refl; stays = refl };
+  first = λ f r. clash {t = true} refl (sym (rw f at e));
+  again = λ f l r. clash e (closing-loud (s .phase) f);
+  more = λ at f y. clash {t = true} refl (sym (rw f at e));
+  skip = λ at f. clash {t = true} refl (sym (rw f at e));
+  acknowledge = λ f p. clash {t = true} refl (sym (rw f at e));
+  stand = λ f. record { gives = refl; stays = refl };
+  done = λ f. record { gives = refl; stays = refl };
+})
+
+step-silent : (s : Collection) (k : Completion) → silentBy (s .phase) ≡ true → Silent (stepBy s k)
+step-silent s k e =
+    same-or-not (refusalOf s (k .ok) (length (k .bytes)) (k .copy)) success
+    (λ r. rw (taken-step s (k .ok) (k .bytes) (k .copy) r) (silent s (k .ok) (lookOf s (k .bytes)) e))
+    (λ r. rw (refused-step s (k .ok) (k .bytes) (k .copy) r) (record { gives = refl; stays = e }))
+
+play-silent : (s : Collection) (ks : List Completion) → silentBy (s .phase) ≡ true → play s ks ≡ []
+unfolding play
+play-silent s [] e = refl
+play-silent s (k ∷ ks) e =
+    let q = step-silent s k e in
+    rw (q .gives) (play-silent (stepBy s k .state) ks (q .stays))
+
+-- ---- runs
+
+-- one step more, by what it gives
+chain-on : (s : Collection) (k : Completion) (ks : List Completion) (w : Words) → Reached most4 s → Retains w
+    → ((v : Words) → (silentBy (stepBy s k .state .phase) ≡ false → Retains v) → AllButLast Retains (v ∷ play (stepBy s k .state) ks))
+    → (n : Next) → stepBy s k .next ≡ n → AllButLast Retains (w ∷ given n ++ play (stepBy s k .state) ks)
+chain-on s k ks w r h rest (Send v) q = (h, rest v (λ l. given-rae s k v r q (loud-no-ack (stepBy s k .state .phase) l)))
+chain-on s k ks w r h rest (Ends e) q = rest w (λ l. h)
+chain-on s k ks w r h rest (Refused n) q = rest w (λ l. h)
+
+chain-step : (s : Collection) (k : Completion) (ks : List Completion) (w : Words) → Reached most4 s → (silentBy (s .phase) ≡ false → Retains w)
+    → ((v : Words) → (silentBy (stepBy s k .state .phase) ≡ false → Retains v) → AllButLast Retains (v ∷ play (stepBy s k .state) ks))
+    → AllButLast Retains (w ∷ play s (k ∷ ks))
+unfolding play
+chain-step s k ks w r a rest = by (silentBy (s .phase)) refl
+  where
+    by : (t : Bool) → silentBy (s .phase) ≡ t → AllButLast Retains (w ∷ play s (k ∷ ks))
+    by true e = subst (λ (ws : List Words). AllButLast Retains (w ∷ ws)) (sym (play-silent s (k ∷ ks) e)) tt
+    by false e = chain-on s k ks w r (a e) rest (stepBy s k .next) refl
+
+-- all but the last of a command, which retains unless it is the acknowledgement, and of those that follow it
+chain : (s : Collection) (ks : List Completion) (w : Words) → Reached most4 s → (silentBy (s .phase) ≡ false → Retains w)
+    → AllButLast Retains (w ∷ play s ks)
+unfolding play
+chain s [] w r a = tt
+chain s (k ∷ ks) w r a = chain-step s k ks w r a (λ v h. chain (stepBy s k .state) ks v (step-house s k r) h)
+
+-- what holds of each command that a step gives holds of all that steps give
+given-all : (P : Words → Type 0) (n : Next) (ws : List Words) → ((w : Words) → n ≡ Send w → P w) → All P ws → All P (given n ++ ws)
+given-all P (Send w) ws f rest = (f w refl, rest)
+given-all P (Ends e) ws f rest = rest
+given-all P (Refused n) ws f rest = rest
+
+play-all : (P : Words → Type 0) (page : ℕ)
+    → ((s : Collection) (k : Completion) (w : Words) → Reached most4 s → s .plan .page ≡ page → stepBy s k .next ≡ Send w → P w)
+    → (s : Collection) (ks : List Completion) → Reached most4 s → s .plan .page ≡ page → All P (play s ks)
+unfolding play
+play-all P page f s [] r e = tt
+play-all P page f s (k ∷ ks) r e =
+    given-all P (stepBy s k .next) (play (stepBy s k .state) ks) (λ w q. f s k w r e q)
+    (play-all P page f (stepBy s k .state) ks (step-house s k r) (ap (λ (p : Plan). p .page) (step-counts s (k .ok) (k .bytes) (k .copy) .plan) ∙ e))
+
+first-retains : (p : Plan) → setupAnswer p ≡ success → Retains (awaitedOf (beginning p First 1))
+first-retains p e =
+    let r : Reached most4 (beginning p First 1) = rw (setup-taken p e) at (begins most4 p e) in
+    ap (λ (c : Command). c .rae) (awaited-reads (beginning p First 1) r refl) ∙ rae-by First p (zeros 4) refl
+
+-- Only the last command of a run can have RAE 0,
+pub rae-all-but-last : (p : Plan) (ks : List Completion) → setupAnswer p ≡ success → AllButLast Retains (recordOf p ks)
+rae-all-but-last p ks e =
+    rw (setup-taken p e) (chain (beginning p First 1) ks (awaitedOf (beginning p First 1)) (rw (setup-taken p e) at (begins most4 p e)) (λ l. first-retains p e))
+
+-- and on 07h none has.
+pub rae-all-on-host : (p : Plan) (ks : List Completion) → setupAnswer p ≡ success → p .page ≡ hostPage → All Retains (recordOf p ks)
+rae-all-on-host p ks e h =
+    rw (setup-taken p e)
+    (first-retains p e, play-all Retains hostPage host (beginning p First 1) ks (rw (setup-taken p e) at (begins most4 p e)) h)
+  where
+    host : (s : Collection) (k : Completion) (w : Words) → Reached most4 s → s .plan .page ≡ hostPage → stepBy s k .next ≡ Send w → Retains w
+    host s k w r q g = given-rae s k w r g (no-ack (ackBy (stepBy s k .state .phase)) refl)
+      where
+        no-ack : (t : Bool) → ackBy (stepBy s k .state .phase) ≡ t → t ≡ false
+        no-ack true a = let c = step-gives s k w g .ack a in absurd (omega arith)
+        no-ack false a = refl
+
+-- Create is sent with the first command alone, so once at most.
+pub create-first-alone : (p : Plan) (ks : List Completion) → setupAnswer p ≡ success → AllButFirst NoCreate (recordOf p ks)
+create-first-alone p ks e =
+    rw (setup-taken p e)
+    (play-all NoCreate (p .page) (λ s k w r q g. given-create s k w r g) (beginning p First 1) ks (rw (setup-taken p e) at (begins most4 p e)) refl)

@@ -1,0 +1,66 @@
+-- A run: setup, and then completions, each of them any success or refusal with any data, and with a lent copy of any length.
+-- Assumes nothing.
+use Prim.Native.Nat.{ℕ, _+_, _-_, _/_}
+use mathlib.Core.List.{List, [], _∷_, _++_}
+use mathlib.Core.Bool.{Bool}
+use lib.Dec.{eqb}
+use Rattle.basics.specs.Choice.{pick, larger}
+use Rattle.answers.specs.Answers.{doesNotFit}
+use Rattle.words.specs.declared.Words.{Words}
+use Rattle.course.specs.declared.Plan.{Plan}
+use Rattle.course.specs.Course.{areaLast}
+use Rattle.collection.specs.declared.Collection.{Collection}
+use Rattle.collection.specs.declared.Next.{Next}
+use Rattle.collection.specs.declared.Next.the-variants.{Send, Ended as Ends, Refused}
+use Rattle.collection.specs.declared.Stepped.{Stepped}
+use Rattle.collection.specs.Collection.{setupOf, stepOf, numberOf}
+
+pub record Completion : Type 0 where
+  pub ok : Bool
+  pub bytes : List ℕ
+  pub copy : ℕ
+
+-- the step that a completion makes
+abbrev pub stepBy : Collection → Completion → Stepped
+stepBy s k = stepOf s (k .ok) (k .bytes) (k .copy)
+
+-- the commands that an answer gives: one, or none
+abbrev pub given : Next → List Words
+given (Send w) = w ∷ []
+given (Ends e) = []
+given (Refused n) = []
+
+-- the state after completions
+unfoldable pub after : Collection → List Completion → Collection
+after s [] = s
+after s (k ∷ ks) = after (stepBy s k .state) ks
+
+-- the commands that the steps gave, in order
+unfoldable pub play : Collection → List Completion → List Words
+play s [] = []
+play s (k ∷ ks) = given (stepBy s k .next) ++ play (stepBy s k .state) ks
+
+-- the state of a run, and its record: the commands that setup and the steps gave, in order
+abbrev pub stateOf : Plan → List Completion → Collection
+stateOf p ks = after (setupOf p .state) ks
+
+abbrev pub recordOf : Plan → List Completion → List Words
+recordOf p ks = given (setupOf p .next) ++ play (setupOf p .state) ks
+
+-- the chunks from a block on: ⌈(B + 1 - at) / c⌉
+abbrev pub chunksFrom : ℕ → ℕ → ℕ → ℕ
+chunksFrom c at b = (b + c - at) / c
+
+-- the chunks that a header calls for: ⌈B / c⌉
+abbrev pub chunksOf : Plan → List ℕ → ℕ
+chunksOf p last = chunksFrom (p .chunk) 1 (areaLast p last)
+
+-- the most chunks that any header of the run calls for; a state keeps the last blocks of its attempt's header
+unfoldable pub mostChunks : Collection → List Completion → ℕ
+mostChunks s [] = chunksOf (s .plan) (s .last)
+mostChunks s (k ∷ ks) = larger (chunksOf (s .plan) (s .last)) (mostChunks (stepBy s k .state) ks)
+
+-- how many of the completions fit the awaited command, that is, are not answered 15
+unfoldable pub fitting : Collection → List Completion → ℕ
+fitting s [] = 0
+fitting s (k ∷ ks) = pick (eqb (numberOf (stepBy s k .next)) doesNotFit) 0 1 + fitting (stepBy s k .state) ks
