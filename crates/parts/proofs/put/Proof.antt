@@ -11,17 +11,17 @@ use Rattle.parts.proofs.put.Tie as tie
 sub-if2 : tie.Need-sub-if2
 sub-if2 c = search needs
 
-sub-copy : tie.Need-sub-copy
-sub-copy c = search needs
+sub-copy-all : tie.Need-sub-copy-all
+sub-copy-all c = search needs
 
-part-copy-start : tie.Need-part-copy-start
-part-copy-start c = search needs
+part-copy-all-start : tie.Need-part-copy-all-start
+part-copy-all-start c = search needs
 
-part-copy-end : tie.Need-part-copy-end
-part-copy-end c = search needs
+part-copy-all-end : tie.Need-part-copy-all-end
+part-copy-all-end c = search needs
 
-copy-requires : tie.Need-copy-requires
-copy-requires c κs = search needs
+copy-all-requires : tie.Need-copy-all-requires
+copy-all-requires c κs = search needs
 
 same-length : tie.Need-same-length
 same-length c = search needs
@@ -29,7 +29,7 @@ same-length c = search needs
 returns : tie.Need-returns
 returns c =
     let a = c .before .before .before .before .before .before .before .before .args in
-    copy-back (a .dst .now) (a .src .now) (a .place) (omega arith) (c .before .before .copy .last .1 .0) (c .before .before .copy .ensures .1)
+    copy-back (a .dst .now) (a .src .now) (a .place) (omega arith) (c .before .before .copy-all .last .1 .0) (c .before .before .copy-all .ensures)
 
 returns-2 : tie.Need-returns-2
 returns-2 c =
@@ -46,10 +46,10 @@ put-spec =
     tie.close
     (tie.spec
     sub-if2
-    sub-copy
-    part-copy-start
-    part-copy-end
-    copy-requires
+    sub-copy-all
+    part-copy-all-start
+    part-copy-all-end
+    copy-all-requires
     same-length
     returns
     returns-2
