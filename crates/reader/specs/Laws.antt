@@ -17,5 +17,5 @@ more-holds n at e =
     let b = leb-true block (n - at) (and-right (leb at n) (leb block (n - at)) e) in
     omega arith
 
-pub width : (at : ℕ) → at + block - at ≡ block
-width at = omega arith
+pub width : (at n : ℕ) → at + n - at ≡ n
+width at n = omega arith

@@ -26,7 +26,7 @@ part-result-end c = omega (arith, more-holds _ _ (sym (c .before .more-at .ensur
 
 returns : tie.Need-returns
 unfolding blockAt partAt
-returns c = let e = sym (c .before .before .more-at .ensures) ∙ c .before .if1 .taken in (rw (e, width (c .before .before .before .before .args .at)), rw e)
+returns c = let e = sym (c .before .before .more-at .ensures) ∙ c .before .if1 .taken in (rw (e, width), rw e)
 
 sub-result-2 : tie.Need-sub-result-2
 sub-result-2 c = search needs
