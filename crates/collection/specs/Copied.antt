@@ -8,7 +8,7 @@ use mathlib.Core.Bool.{Bool, true, false}
 use native.Mathlib.Omega.{arith}
 use native.Mathlib.Nat.{sub-zero}
 use lib.ListN.{length, take}
-use Rattle.parts.specs.Parts.{zeros, length-zeros, put, put-fits, put-end, put-whole}
+use Rattle.parts.specs.Parts.{zeros, length-zeros, put, put-fits, put-length, put-end, put-whole}
 use Rattle.answers.specs.Answers.{success}
 use Rattle.pages.specs.Pages.{block}
 use Rattle.words.specs.declared.Words.{Words}
@@ -21,7 +21,9 @@ use Rattle.course.specs.Laws.{chunk-inside, chunk-ends, fits-room}
 use Rattle.collection.specs.declared.Collection.{Collection}
 use Rattle.collection.specs.declared.Ending.{Ending}
 use Rattle.collection.specs.declared.Next.the-variants.{Send, Ended as Ends}
-use Rattle.collection.specs.Collection.{expectedOf, lookOf, refusalOf, newerThan, moveOf, actOf, zerosFrom, touched, stepOf, copyAfter, numberOf}
+use Rattle.collection.specs.declared.Touch.{Touch}
+use Rattle.collection.specs.declared.Touch.the-variants.{Nothing, Place, Tail, All}
+use Rattle.collection.specs.Collection.{expectedOf, lookOf, refusalOf, newerThan, moveOf, actOf, decideOf, zerosFrom, touched, stepOf, copyAfter, numberOf}
 use Rattle.collection.specs.Laws.{same-or-not, state-kept, not-refused, Moves, move-cases}
 use Rattle.collection.specs.Steps.{refused-step, refused-copy, taken-step, taken-copy}
 
@@ -43,6 +45,19 @@ chunk-fits s at bytes copy f r =
     let l : bytes ≡ block * chunkBlocks (s .plan .chunk) at (areaLast (s .plan) (s .last)) = rw f at (t .bytes-fit) in
     let w = area-within s true bytes copy r in
     omega arith
+
+-- ---- no step changes the copy's length
+
+touched-length : (t : Touch) (d copy : List ℕ) → length (touched t d copy) ≡ length copy
+unfolding touched
+touched-length Nothing d copy = refl
+touched-length (Place place) d copy = put-length copy place d
+touched-length (Tail place) d copy = put-length copy place (zeros (length copy - place))
+touched-length All d copy = put-length copy 0 (zeros (length copy - 0))
+
+pub copy-length : (s : Collection) (ok : Bool) (d copy : List ℕ) → length (copyAfter s ok d copy) ≡ length copy
+unfolding copyAfter
+copy-length s ok d copy = touched-length (decideOf s ok (length d) (length copy) (lookOf s d) .touch) d copy
 
 -- ---- a good chunk goes into the copy at its offset less the header, and no other byte changes
 

@@ -41,14 +41,15 @@ pub record Ready (w : World) (bytes : ℕ) (buf : List ℕ) : Type 0 where
 abbrev pub sends : ℕ → Bool → ℕ → Bool → ℕ → ℕ → Words
 sends page create mcda rae offset blocks = builtOf page create mcda rae offset blocks .words
 
-asked-is : (w : World) (page : ℕ) (create : Bool) (mcda : ℕ) (rae : Bool) (offset blocks : ℕ) → w .drive .caps .ext ≡ true
+-- which are read to what they mean
+pub asked-is : (w : World) (page : ℕ) (create : Bool) (mcda : ℕ) (rae : Bool) (offset blocks : ℕ) → w .drive .caps .ext ≡ true
     → taken page create mcda offset blocks ≡ true
     → asked w (sends page create mcda rae offset blocks) ≡ meant page create mcda rae offset blocks
 asked-is w page create mcda rae offset blocks e t =
     rw e (built-back true page create mcda rae offset blocks t (λ n. clash refl n) .1)
 
--- such words have no invalid field
-valid : (caps : Caps) (page : ℕ) (create : Bool) (mcda : ℕ) (rae : Bool) (offset blocks : ℕ) → caps .ext ≡ true → mcda ≤ 4
+-- and have no invalid field
+pub valid : (caps : Caps) (page : ℕ) (create : Bool) (mcda : ℕ) (rae : Bool) (offset blocks : ℕ) → caps .ext ≡ true → mcda ≤ 4
     → fieldBad caps (meant page create mcda rae offset blocks) ≡ false
 unfolding fieldBad
 valid caps page create mcda rae offset blocks e m =
@@ -70,7 +71,7 @@ unfolding taken
 mcda-taken page create mcda offset blocks t = leb-true _ _ (each _ t 2)
 
 -- without create the last blocks are those that the page's header shows
-last-read : (w : World) (page : ℕ) (rae : Bool) (offset blocks : ℕ) (a : List ℕ)
+pub last-read : (w : World) (page : ℕ) (rae : Bool) (offset blocks : ℕ) (a : List ℕ)
     → lastAfter (w .drive) (meant page false 0 rae offset blocks) a ≡ fieldsFor page (w .drive) .last
 unfolding lastAfter fieldsFor hostFields ctrlFields
 last-read w page rae offset blocks a = by-test (eqb page hostPage) (λ e. rw e) (λ e. rw e)
@@ -137,7 +138,7 @@ reason-long : (w : World) → Sized (w .drive) → (page : ℕ) → length (fiel
 unfolding fieldsFor hostFields ctrlFields
 reason-long w z page = by-test (eqb page hostPage) (λ e. rw e (z .host-reason)) (λ e. rw e (z .ctrl-reason))
 
-header-taken : (page : ℕ) → telemetryPage page ≡ true → taken page false 0 0 1 ≡ true
+pub header-taken : (page : ℕ) → telemetryPage page ≡ true → taken page false 0 0 1 ≡ true
 unfolding taken holds
 header-taken page p = rw p
 
@@ -157,7 +158,7 @@ own-header w cand page rae buf k z p =
 
 -- ---- the first header with create
 
-create-taken : (mcda : ℕ) → mcda ≤ 4 → taken hostPage true mcda 0 1 ≡ true
+pub create-taken : (mcda : ℕ) → mcda ≤ 4 → taken hostPage true mcda 0 1 ≡ true
 unfolding taken holds
 create-taken mcda h = rw (le-leb mcda 4 h)
 

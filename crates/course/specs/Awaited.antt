@@ -35,7 +35,7 @@ pub record Awaits (f : Phase) (p : Plan) (last : List ℕ) : Type 0 where
   pub answer : builtBy f p last .answer ≡ success
   pub reads : readOf true (awaitedBy f p last) ≡ commandBy f p last
 
-first-mcda : (create mcdas : Bool) (area : ℕ) → area ≤ 4
+pub first-mcda : (create mcdas : Bool) (area : ℕ) → area ≤ 4
     → (leb (pick (create && mcdas) area 0) 4 ≡ true) × (create || eqb (pick (create && mcdas) area 0) 0 ≡ true)
 first-mcda true true area h = (le-leb area 4 h, refl)
 first-mcda true false area h = (refl, refl)
@@ -52,7 +52,8 @@ plain-taken : (p : Plan) (at n : ℕ) → setupAnswer p ≡ success → at ≤ m
 unfolding taken holds
 plain-taken p at n e l a b = rw (each (planTests p) (plan-taken p e .0) 0, le-leb 1 n a, le-leb n mostBlocks b, le-leb at most4 l)
 
-chunk-taken : (p : Plan) (last : List ℕ) (at : ℕ) → setupAnswer p ≡ success → fitsRoom p last ≡ true → insideBy (Chunk at) (areaLast p last) ≡ true
+-- a chunk that starts within the area is one that the builder takes
+pub chunk-taken : (p : Plan) (last : List ℕ) (at : ℕ) → setupAnswer p ≡ success → fitsRoom p last ≡ true → insideBy (Chunk at) (areaLast p last) ≡ true
     → taken (p .page) false 0 at (chunkBlocks (p .chunk) at (areaLast p last)) ≡ true
 chunk-taken p last at e r i =
     let l = plan-limits p e in

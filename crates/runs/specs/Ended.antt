@@ -7,7 +7,7 @@ use mathlib.Core.Path.{_≡_, refl, sym, _∙_}
 use mathlib.Core.List.{List, [], _∷_}
 use mathlib.Core.Bool.{Bool, true, false, not}
 use native.Mathlib.Omega.{arith}
-use native.Mathlib.Nat.{add-mul, mul-le-mul-left, mul-le-mul-right, div-eq-sub-div, div-lt-iff-lt-mul}
+use native.Mathlib.Nat.{add-mul, mul-add, mul-le-mul-left, mul-le-mul-right, div-eq-sub-div, div-lt-iff-lt-mul}
 use lib.ListN.{length}
 use lib.Dec.{leb, eqb}
 use borrow.Author.Tests.{le-leb, eq-eqb}
@@ -15,7 +15,7 @@ use Rattle.basics.specs.Choice.{pick, pick-cases, larger-left, larger-right, fi
 use Rattle.basics.specs.Tests.{holds, clash}
 use Rattle.answers.specs.Answers.{success, badSetup, alreadyEnded, doesNotFit}
 use Rattle.parts.specs.Parts.{zeros}
-use Rattle.pages.specs.Pages.{most4, lastOf}
+use Rattle.pages.specs.Pages.{ctrlPage, most4, lastOf}
 use Rattle.course.specs.declared.Plan.{Plan}
 use Rattle.course.specs.declared.Phase.{Phase}
 use Rattle.course.specs.declared.Phase.the-variants.{First, Chunk, Close, CloseRefused, Ack, Ended}
@@ -28,7 +28,7 @@ use Rattle.collection.specs.declared.Collection.{Collection}
 use Rattle.collection.specs.Collection.{mostCount, stateOk, completionFits, lookOf, refusalOf, moveOf, actOf, setupOf, numberOf}
 use Rattle.collection.specs.Laws.{same-or-not, closingBy, move-cases}
 use Rattle.collection.specs.Steps.{setup-taken, refused-step, taken-step}
-use Rattle.runs.specs.Run.{Completion, stepBy, after, stateOf, chunksFrom, chunksOf, mostChunks, fitting}
+use Rattle.runs.specs.Run.{Completion, stepBy, after, stateOf, chunksFrom, chunksOf, mostChunks, acknowledging, fitting}
 use Rattle.runs.specs.Counted.{step-counts, plan-stays}
 
 -- ---- chunks
@@ -60,13 +60,13 @@ dueBy Ack most p last = 0
 dueBy Ended most p last = 0
 
 -- the first header and, once it may have been sent, the acknowledgement
-abbrev extraBy : Phase → ℕ
-extraBy First = 1
-extraBy (Chunk at) = 1
-extraBy Close = 1
-extraBy CloseRefused = 1
-extraBy Ack = 2
-extraBy Ended = 2
+abbrev extraBy : Phase → Plan → ℕ
+extraBy First p = 1
+extraBy (Chunk at) p = 1
+extraBy Close p = 1
+extraBy CloseRefused p = 1
+extraBy Ack p = 1 + acknowledging p
+extraBy Ended p = 1 + acknowledging p
 
 pub record Reached (most : ℕ) (s : Collection) : Type 0 where
   pub plan : setupAnswer (s .plan) ≡ success
@@ -74,9 +74,9 @@ pub record Reached (most : ℕ) (s : Collection) : Type 0 where
   pub high : s .attempt ≤ s .plan .attempts
   pub room : fitsRoom (s .plan) (s .last) ≡ true
   pub inside : insideBy (s .phase) (areaLast (s .plan) (s .last)) ≡ true
-  pub few : s .count + dueBy (s .phase) most (s .plan) (s .last) ≤ extraBy (s .phase) + s .attempt * (most + 1)
+  pub few : s .count + dueBy (s .phase) most (s .plan) (s .last) ≤ extraBy (s .phase) (s .plan) + s .attempt * (most + 1)
 
-few-closing : (f : Phase) (most n t : ℕ) (p : Plan) (last : List ℕ) → closingBy f ≡ true → n + dueBy f most p last ≤ extraBy f + t → n ≤ 1 + t
+few-closing : (f : Phase) (most n t : ℕ) (p : Plan) (last : List ℕ) → closingBy f ≡ true → n + dueBy f most p last ≤ extraBy f p + t → n ≤ 1 + t
 few-closing First most n t p last c h = omega arith
 few-closing (Chunk at) most n t p last c h = omega arith
 few-closing Close most n t p last c h = omega arith
@@ -84,13 +84,29 @@ few-closing CloseRefused most n t p last c h = omega arith
 few-closing Ack most n t p last c h = clash {t = true} refl (sym c)
 few-closing Ended most n t p last c h = clash {t = true} refl (sym c)
 
-few-ended : (f : Phase) (most n t : ℕ) (p : Plan) (last : List ℕ) → n + dueBy f most p last ≤ extraBy f + t → n + 0 ≤ 2 + t
+few-ended : (f : Phase) (most n t : ℕ) (p : Plan) (last : List ℕ) → n + dueBy f most p last ≤ extraBy f p + t → n + 0 ≤ 1 + acknowledging p + t
 few-ended First most n t p last h = omega arith
 few-ended (Chunk at) most n t p last h = omega arith
 few-ended Close most n t p last h = omega arith
 few-ended CloseRefused most n t p last h = omega arith
 few-ended Ack most n t p last h = omega arith
 few-ended Ended most n t p last h = omega arith
+
+few-more : (f : Phase) (most more n t : ℕ) (p : Plan) (last : List ℕ) → most ≤ more → 1 ≤ t → n + dueBy f most p last ≤ extraBy f p + t * (most + 1)
+    → n + dueBy f more p last ≤ extraBy f p + t * (more + 1)
+few-more First most more n t p last l o h =
+    let m = mul-le-mul-right (more - most) o in
+    let a = mul-add t most 1 in
+    let b = mul-add t more 1 in
+    let c = mul-add t most (more - most) in
+    let d : most + (more - most) ≡ more = omega arith in
+    let g : t * more ≡ t * most + t * (more - most) = rw d at c in
+    omega arith
+few-more (Chunk at) most more n t p last l o h = let m = mul-le-mul-left {m = most + 1} {n = more + 1} t (omega arith) in omega arith
+few-more Close most more n t p last l o h = let m = mul-le-mul-left {m = most + 1} {n = more + 1} t (omega arith) in omega arith
+few-more CloseRefused most more n t p last l o h = let m = mul-le-mul-left {m = most + 1} {n = more + 1} t (omega arith) in omega arith
+few-more Ack most more n t p last l o h = let m = mul-le-mul-left {m = most + 1} {n = more + 1} t (omega arith) in omega arith
+few-more Ended most more n t p last l o h = let m = mul-le-mul-left {m = most + 1} {n = more + 1} t (omega arith) in omega arith
 
 -- the phase at a block: the chunk there, or the closing header
 at-inside : (at b : ℕ) → 1 ≤ at → insideBy (phaseAt at b) b ≡ true
@@ -99,10 +115,10 @@ at-inside at b h =
     pick-cases (λ (f : Phase). insideBy f b ≡ true) (leb at b) (λ e. rw (le-leb 1 at h, e)) (λ e. refl)
 
 at-few : (at most n t : ℕ) (p : Plan) (last : List ℕ) → n + chunksFrom (p .chunk) at (areaLast p last) ≤ 1 + t
-    → n + dueBy (phaseAt at (areaLast p last)) most p last ≤ extraBy (phaseAt at (areaLast p last)) + t
+    → n + dueBy (phaseAt at (areaLast p last)) most p last ≤ extraBy (phaseAt at (areaLast p last)) p + t
 unfolding phaseAt
 at-few at most n t p last h =
-    pick-cases (λ (f : Phase). n + dueBy f most p last ≤ extraBy f + t) (leb at (areaLast p last)) (λ e. h) (λ e. omega arith)
+    pick-cases (λ (f : Phase). n + dueBy f most p last ≤ extraBy f p + t) (leb at (areaLast p last)) (λ e. h) (λ e. omega arith)
 
 -- what a move leads to, where the header of the state after it calls for at most most chunks
 abbrev Leads : ℕ → Collection → Seen → Move → Type 0
@@ -194,9 +210,10 @@ module _ (most : ℕ) (s : Collection) (h : Seen) (r : Reached most s) where
       let k = chunks-less (s .plan .chunk) at (areaLast (s .plan) (s .last)) (l .chunk-low) (i .1) in
       record { plan = r .plan; low = r .low; high = r .high; room = r .room; inside = refl; few = omega arith }
 
-  acknowledge : s .phase ≡ Close → Leads most s h Acknowledge
+  acknowledge : s .phase ≡ Close → s .plan .page ≡ ctrlPage → Leads most s h Acknowledge
   unfolding actOf
-  acknowledge f c =
+  acknowledge f e c =
+      let a : acknowledging (s .plan) ≡ 1 = rw e in
       let n : s .count + 0 ≤ 1 + s .attempt * (most + 1) = rw f at (r .few) in
       record { plan = r .plan; low = r .low; high = r .high; room = r .room; inside = refl; few = omega arith }
 
@@ -208,10 +225,21 @@ module _ (most : ℕ) (s : Collection) (h : Seen) (r : Reached most s) where
     again = λ f l w. again f l w;
     more = λ at f y. more at f;
     skip = λ at f. skip at f;
-    acknowledge = λ f p. acknowledge f;
+    acknowledge = λ f p. acknowledge f p;
     stand = λ f. done false;
     done = λ f. done _;
   })
+
+-- a larger bound holds too
+pub reached-more : (most more : ℕ) (s : Collection) → most ≤ more → Reached most s → Reached more s
+reached-more most more s l r = record {
+  plan = r .plan;
+  low = r .low;
+  high = r .high;
+  room = r .room;
+  inside = r .inside;
+  few = few-more (s .phase) most more (s .count) (s .attempt) (s .plan) (s .last) l (r .low) (r .few);
+}
 
 pub step-reached : (most : ℕ) (s : Collection) (k : Completion) → Reached most s
     → (fitsRoom (s .plan) (stepBy s k .state .last) ≡ true → chunksOf (s .plan) (stepBy s k .state .last) ≤ most)
@@ -270,31 +298,39 @@ unfolding after
 run-house s [] r = r
 run-house s (k ∷ ks) r = run-house (stepBy s k .state) ks (step-house s k r)
 
-few-most : (f : Phase) (most n t : ℕ) (p : Plan) (last : List ℕ) → n + dueBy f most p last ≤ extraBy f + t → n ≤ 2 + t
-few-most f most n t p last h = let e = few-ended f most n t p last h in omega arith
-
-reached-count : (most : ℕ) (s : Collection) → Reached most s → s .count ≤ 2 + s .plan .attempts * (most + 1)
+-- the commands sent by an attempt
+pub reached-count : (most : ℕ) (s : Collection) → Reached most s → s .count ≤ 1 + s .attempt * (most + 1) + acknowledging (s .plan)
 reached-count most s r =
-    let n = few-most (s .phase) most (s .count) (s .attempt * (most + 1)) (s .plan) (s .last) (r .few) in
+    let n = few-ended (s .phase) most (s .count) (s .attempt * (most + 1)) (s .plan) (s .last) (r .few) in
+    omega arith
+
+reached-most : (most : ℕ) (s : Collection) → Reached most s → s .count ≤ 1 + s .plan .attempts * (most + 1) + acknowledging (s .plan)
+reached-most most s r =
+    let n = reached-count most s r in
     let m = mul-le-mul-right (most + 1) (r .high) in
     omega arith
+
+one-more : (p : Plan) → acknowledging p ≤ 1
+one-more p = pick-cases (λ (x : ℕ). x ≤ 1) (eqb (p .page) ctrlPage) (λ e. omega arith) (λ e. omega arith)
 
 pub reached-ok : (s : Collection) → Reached most4 s → stateOk s ≡ true
 unfolding stateOk holds withinBy
 reached-ok s r =
-    let n = reached-count most4 s r in
-    rw (eq-eqb (setupAnswer (s .plan)) success (r .plan), le-leb 1 (s .attempt) (r .low), le-leb (s .attempt) (s .plan .attempts) (r .high), le-leb (s .count) (mostCount (s .plan .attempts)) n, r .room, r .inside)
+    let n = reached-most most4 s r in
+    let o = one-more (s .plan) in
+    rw (eq-eqb (setupAnswer (s .plan)) success (r .plan), le-leb 1 (s .attempt) (r .low), le-leb (s .attempt) (s .plan .attempts) (r .high), le-leb (s .count) (mostCount (s .plan .attempts)) (omega arith), r .room, r .inside)
 
 -- Every state that setup and steps give is sane: whatever completes the commands, none of them gets 13.
 pub never-13 : (p : Plan) (ks : List Completion) → setupAnswer p ≡ success → stateOk (stateOf p ks) ≡ true
 never-13 p ks e = reached-ok (stateOf p ks) (run-house (setupOf p .state) ks (begins most4 p e))
 
--- Whatever completes the commands, a run sends at most 2 + attempts·(C + 1) of them, C being the most chunks that any of its headers calls for.
+-- Whatever completes the commands, a run sends at most 1 + attempts·(C + 1) of them, one more on 08h, C being the most chunks that any of its
+-- headers calls for.
 pub few-commands : (p : Plan) (ks : List Completion) → setupAnswer p ≡ success
-    → stateOf p ks .count ≤ 2 + p .attempts * (mostChunks (setupOf p .state) ks + 1)
+    → stateOf p ks .count ≤ 1 + p .attempts * (mostChunks (setupOf p .state) ks + 1) + acknowledging p
 few-commands p ks e =
     let most = mostChunks (setupOf p .state) ks in
-    let n = reached-count most (stateOf p ks) (run-reached most (setupOf p .state) ks (begins most p e) (omega arith)) in
+    let n = reached-most most (stateOf p ks) (run-reached most (setupOf p .state) ks (begins most p e) (omega arith)) in
     let q : stateOf p ks .plan ≡ p = plan-stays (setupOf p .state) ks ∙ rw (setup-taken p e) in
     rw q at n
 
@@ -362,9 +398,10 @@ fitting-counts s (k ∷ ks) r g =
     let c = step-going s k (reached-ok s r) (not-yet (stepBy s k .state) ks g) in
     omega arith
 
--- No controller can keep a collection from ending: 2 + attempts·(C + 1) completions that fit the awaited command end it, whatever they are.
+-- No controller can keep a collection from ending: 1 + attempts·(C + 1) completions that fit the awaited command, one more on 08h, end it,
+-- whatever they are.
 pub ends : (p : Plan) (ks : List Completion) → setupAnswer p ≡ success
-    → 2 + p .attempts * (mostChunks (setupOf p .state) ks + 1) ≤ fitting (setupOf p .state) ks
+    → 1 + p .attempts * (mostChunks (setupOf p .state) ks + 1) + acknowledging p ≤ fitting (setupOf p .state) ks
     → endedBy (stateOf p ks .phase) ≡ true
 ends p ks e l = by (endedBy (stateOf p ks .phase)) refl
   where
@@ -394,4 +431,5 @@ pub ends-in-any-case : (p : Plan) (ks : List Completion) → setupAnswer p ≡ s
 ends-in-any-case p ks e l =
     let c = chunks-limited p ks e in
     let m = mul-le-mul-left {m = mostChunks (setupOf p .state) ks + 1} {n = most4 + 1} (p .attempts) (omega arith) in
+    let o = one-more p in
     ends p ks e (omega arith)

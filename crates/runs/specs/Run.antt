@@ -6,6 +6,7 @@ use mathlib.Core.Bool.{Bool}
 use lib.Dec.{eqb}
 use Rattle.basics.specs.Choice.{pick, larger}
 use Rattle.answers.specs.Answers.{doesNotFit}
+use Rattle.pages.specs.Pages.{ctrlPage}
 use Rattle.words.specs.declared.Words.{Words}
 use Rattle.course.specs.declared.Plan.{Plan}
 use Rattle.course.specs.Course.{areaLast}
@@ -59,6 +60,10 @@ chunksOf p last = chunksFrom (p .chunk) 1 (areaLast p last)
 unfoldable pub mostChunks : Collection → List Completion → ℕ
 mostChunks s [] = chunksOf (s .plan) (s .last)
 mostChunks s (k ∷ ks) = larger (chunksOf (s .plan) (s .last)) (mostChunks (stepBy s k .state) ks)
+
+-- the acknowledgement: one command more on 08h
+abbrev pub acknowledging : Plan → ℕ
+acknowledging p = pick (eqb (p .page) ctrlPage) 1 0
 
 -- how many of the completions fit the awaited command, that is, are not answered 15
 unfoldable pub fitting : Collection → List Completion → ℕ

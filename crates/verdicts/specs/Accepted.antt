@@ -10,7 +10,7 @@ use lib.Dec.{ltb, leb, eqb}
 use borrow.Author.Tests.{leb-true, ltb-true, ltb-false, eqb-true, le-ltb, lt-ltb, not-false}
 use Rattle.basics.specs.Choice.{pick}
 use Rattle.basics.specs.Tests.{each, and-left, and-right, or-cases, clash}
-use Rattle.answers.specs.Answers.{success, invalidField}
+use Rattle.answers.specs.Answers.{success, invalidField, shortBuffer, disagree, brokenCandidate}
 use Rattle.pages.specs.Pages.{telemetryPage, block, most4, lastOf, sizeOf, topOf}
 use Rattle.pages.specs.Trimmed.{InOrder, last-most}
 use Rattle.words.specs.declared.Command.{Command}
@@ -124,6 +124,41 @@ pub beyond-refused : (r : Record) (c : Command) (a : List ℕ) (lent : Lent) →
 unfolding commandAnswer
 beyond-refused r c a lent f o =
     silent-but-fifth (ltb (lent .buf) (c .bytes)) (ap not (f .agrees)) (ap not (both _ _ (f .served) (f .telemetry))) (f .valid) (f .candidate) (lt-ltb _ _ o)
+
+-- ---- a command that is refused for no lent data
+
+not-this : (t : Bool) (n m : ℕ) → (pick t n m ≡ n → ⊥) → t ≡ false
+not-this true n m h = absurd (h refl)
+not-this false n m h = refl
+
+-- without 4 record and stores agree
+pub unless-disagree : (r : Record) (c : Command) (a : List ℕ) (lent : Lent) → (commandAnswer r c a lent ≡ disagree → ⊥)
+    → agreesWith r (lent .host) (lent .ctrl) ≡ true
+unfolding commandAnswer
+unless-disagree r c a lent n = not-false _ (not-this _ _ _ n)
+
+-- without 3, 4 and 5 a command that nothing else speaks against brings no broken candidate, and a buffer for all that starts within the page
+last-three : {d u i : Bool} (b y s : Bool) → d ≡ false → u ≡ false → i ≡ false → (commandOrder d u i b y s ≡ shortBuffer → ⊥)
+    → (commandOrder d u i b y s ≡ brokenCandidate → ⊥)
+    → (b ≡ false) × (y ≡ false → s ≡ false)
+last-three {d} {u} {i} b y s p q r = rw (p, q, r) (by b y s)
+  where
+    by : (b y s : Bool) → (commandOrder false false false b y s ≡ shortBuffer → ⊥) → (commandOrder false false false b y s ≡ brokenCandidate → ⊥)
+        → (b ≡ false) × (y ≡ false → s ≡ false)
+    by true y s m n = absurd (n refl)
+    by false true s m n = (refl, λ e. clash {t = true} refl e)
+    by false false true m n = absurd (m refl)
+    by false false false m n = (refl, λ e. refl)
+
+pub spared : (r : Record) (c : Command) (a : List ℕ) (lent : Lent) → agreesWith r (lent .host) (lent .ctrl) ≡ true → telemetryPage (c .page) ≡ true
+    → r .caps .tel ≡ true → fieldBad (r .caps) c ≡ false
+    → (commandAnswer r c a lent ≡ shortBuffer → ⊥) → (commandAnswer r c a lent ≡ brokenCandidate → ⊥)
+    → (c .create && not (candidateOk (lastOf (topOf (r .caps) (c .mcda)) a) a (lent .bytes) (lent .reason) (lent .host)) ≡ false)
+    × (c .offset ≤ sizeOf (r .caps) (lastAfter r c a) → c .bytes ≤ lent .buf)
+unfolding commandAnswer
+spared r c a lent g s t v m n =
+    let l = last-three _ _ _ (ap not g) (ap not (both _ _ s t)) v m n in
+    (l .0, λ h. ltb-false _ _ (l .1 (le-ltb _ _ h)))
 
 -- ---- a capture on 08h
 

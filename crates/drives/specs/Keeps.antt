@@ -1,0 +1,57 @@
+-- All that a collection relies on of a drive: where demand 2 meets demand 3. p is the collection's plan.
+-- Assumes nothing.
+use Prim.Native.Nat.{ℕ, _+_, _-_, _*_, _%_, _<_}
+use mathlib.Core.Path.{_≡_}
+use mathlib.Core.List.{List}
+use mathlib.Core.Bool.{true, false}
+use lib.ListN.{length, take, drop}
+use Rattle.answers.specs.Answers.{success}
+use Rattle.pages.specs.Pages.{block}
+use Rattle.course.specs.declared.Plan.{Plan}
+use Rattle.course.specs.declared.Phase.{Phase}
+use Rattle.course.specs.declared.Phase.the-variants.{First, Chunk, Ack}
+use Rattle.course.specs.declared.Seen.{Seen}
+use Rattle.course.specs.Course.{areaLast, areaBytes, chunkBlocks, awaitedBy, insideBy, fitsRoom, seenOf, showsNone}
+use Rattle.collection.specs.Laws.{closingBy}
+use Rattle.drives.specs.Drive.{Drive, Done, forLent}
+
+-- the completion is the header of a drive that shows this
+pub record Header (p : Plan) {S : Type 0} (o : Done S) (h : Seen) : Type 0 where
+  pub answer : o .answer ≡ success
+  pub long : length (o .bytes) ≡ block
+  pub seen : seenOf p (o .bytes) ≡ h
+
+pub record Keeps (D : Drive) (p : Plan) : Type 1 where
+  -- what every drive of the run keeps, what its header shows, and the bytes of the wanted area
+  pub Good : D .State → Type 0
+  pub shows : D .State → Seen
+  pub area : D .State → List ℕ
+  pub sound : (d : D .State) → Good d → shows d .good ≡ true
+  pub byte : (d : D .State) → Good d → shows d .generation < 256
+  pub long : (d : D .State) → Good d → length (area d) ≡ areaBytes p (shows d .last)
+  -- a capture moves the generation on by one; where there is none, a page that has data still is as it was
+  pub act-good : (e : D .Event) (d : D .State) → Good d → Good (D .act e d)
+  pub moves : (e : D .Event) (d : D .State) → Good d → shows (D .act e d) .generation ≡ (shows d .generation + D .captures e d) % 256
+  pub quiet : (e : D .Event) (d : D .State) → Good d → D .captures e d ≡ 0 → showsNone p (shows (D .act e d)) ≡ false
+      → (showsNone p (shows d) ≡ false) × (shows (D .act e d) .last ≡ shows d .last) × (area (D .act e d) ≡ area d)
+  -- the first command brings the header of the drive as it leaves it
+  pub first : (l : D .Lent) (last : List ℕ) (d : D .State) → Good d → forLent (D .command l (awaitedBy First p last) d .answer) ≡ false
+      → Header p (D .command l (awaitedBy First p last) d) (shows (D .command l (awaitedBy First p last) d .drive))
+      × Good (D .command l (awaitedBy First p last) d .drive)
+  -- a later header leaves the drive as it is
+  pub closing : (f : Phase) → closingBy f ≡ true → (l : D .Lent) (last : List ℕ) (d : D .State) → Good d
+      → forLent (D .command l (awaitedBy f p last) d .answer) ≡ false
+      → Header p (D .command l (awaitedBy f p last) d) (shows d)
+      × (D .command l (awaitedBy f p last) d .drive ≡ d)
+  -- and so does a chunk; if the area is still the one that it was planned for, it is served and brings that part of it
+  pub chunk : (at : ℕ) (l : D .Lent) (last : List ℕ) (d : D .State) → Good d → fitsRoom p last ≡ true → insideBy (Chunk at) (areaLast p last) ≡ true
+      → forLent (D .command l (awaitedBy (Chunk at) p last) d .answer) ≡ false
+      → (D .command l (awaitedBy (Chunk at) p last) d .drive ≡ d)
+      × (D .command l (awaitedBy (Chunk at) p last) d .answer ≡ success
+      → length (D .command l (awaitedBy (Chunk at) p last) d .bytes) ≡ block * chunkBlocks (p .chunk) at (areaLast p last))
+      × (shows d .last ≡ last
+      → (D .command l (awaitedBy (Chunk at) p last) d .answer ≡ success)
+      × (D .command l (awaitedBy (Chunk at) p last) d .bytes ≡ take (block * chunkBlocks (p .chunk) at (areaLast p last)) (drop (block * (at - 1)) (area d))))
+  -- the acknowledgement brings the header; nothing is asked of the drive after it but that it keeps what it kept
+  pub ack : (l : D .Lent) (last : List ℕ) (d : D .State) → Good d → forLent (D .command l (awaitedBy Ack p last) d .answer) ≡ false
+      → Header p (D .command l (awaitedBy Ack p last) d) (shows d)

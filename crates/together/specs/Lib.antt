@@ -1,0 +1,7 @@
+pub mod Bench
+pub mod Shown
+pub mod Events
+pub mod Own
+pub mod Instance
+pub mod Demand3
+pub mod Example
