@@ -94,6 +94,7 @@ module _ (D : Drive) where
     most = s .most;
   }
 
+  -- and one thing after another
   unfoldable pub happen : List (D .Event) → Stand D → Stand D
   happen [] s = s
   happen (e ∷ es) s = happen es (happens e s)
@@ -128,6 +129,7 @@ module _ (D : Drive) where
   turnBy (Ends e) t s = s
   turnBy (Refused n) t s = s
 
+  -- turn after turn
   unfoldable pub run : List (Turn D) → Stand D → Stand D
   run [] s = s
   run (t ∷ ts) s = run ts (turnBy (s .said) t s)

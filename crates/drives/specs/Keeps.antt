@@ -21,6 +21,10 @@ pub record Header (p : Plan) {S : Type 0} (o : Done S) (h : Seen) : Type 0 where
   pub long : length (o .bytes) ≡ block
   pub seen : seenOf p (o .bytes) ≡ h
 
+-- the command that a phase awaits, answered
+abbrev pub asks : (D : Drive) → Plan → Phase → D .Lent → List ℕ → D .State → Done (D .State)
+asks D p f l last d = D .command l (awaitedBy f p last) d
+
 pub record Keeps (D : Drive) (p : Plan) : Type 1 where
   -- what every drive of the run keeps, what its header shows, and the bytes of the wanted area
   pub Good : D .State → Type 0
@@ -35,23 +39,18 @@ pub record Keeps (D : Drive) (p : Plan) : Type 1 where
   pub quiet : (e : D .Event) (d : D .State) → Good d → D .captures e d ≡ 0 → showsNone p (shows (D .act e d)) ≡ false
       → (showsNone p (shows d) ≡ false) × (shows (D .act e d) .last ≡ shows d .last) × (area (D .act e d) ≡ area d)
   -- the first command brings the header of the drive as it leaves it
-  pub first : (l : D .Lent) (last : List ℕ) (d : D .State) → Good d → forLent (D .command l (awaitedBy First p last) d .answer) ≡ false
-      → Header p (D .command l (awaitedBy First p last) d) (shows (D .command l (awaitedBy First p last) d .drive))
-      × Good (D .command l (awaitedBy First p last) d .drive)
+  pub first : (l : D .Lent) (last : List ℕ) (d : D .State) → Good d → forLent (asks D p First l last d .answer) ≡ false
+      → Header p (asks D p First l last d) (shows (asks D p First l last d .drive)) × Good (asks D p First l last d .drive)
   -- a later header leaves the drive as it is
-  pub closing : (f : Phase) → closingBy f ≡ true → (l : D .Lent) (last : List ℕ) (d : D .State) → Good d
-      → forLent (D .command l (awaitedBy f p last) d .answer) ≡ false
-      → Header p (D .command l (awaitedBy f p last) d) (shows d)
-      × (D .command l (awaitedBy f p last) d .drive ≡ d)
+  pub closing : (f : Phase) → closingBy f ≡ true → (l : D .Lent) (last : List ℕ) (d : D .State) → Good d → forLent (asks D p f l last d .answer) ≡ false
+      → Header p (asks D p f l last d) (shows d) × (asks D p f l last d .drive ≡ d)
   -- and so does a chunk; if the area is still the one that it was planned for, it is served and brings that part of it
   pub chunk : (at : ℕ) (l : D .Lent) (last : List ℕ) (d : D .State) → Good d → fitsRoom p last ≡ true → insideBy (Chunk at) (areaLast p last) ≡ true
-      → forLent (D .command l (awaitedBy (Chunk at) p last) d .answer) ≡ false
-      → (D .command l (awaitedBy (Chunk at) p last) d .drive ≡ d)
-      × (D .command l (awaitedBy (Chunk at) p last) d .answer ≡ success
-      → length (D .command l (awaitedBy (Chunk at) p last) d .bytes) ≡ block * chunkBlocks (p .chunk) at (areaLast p last))
+      → forLent (asks D p (Chunk at) l last d .answer) ≡ false
+      → (asks D p (Chunk at) l last d .drive ≡ d)
+      × (asks D p (Chunk at) l last d .answer ≡ success → length (asks D p (Chunk at) l last d .bytes) ≡ block * chunkBlocks (p .chunk) at (areaLast p last))
       × (shows d .last ≡ last
-      → (D .command l (awaitedBy (Chunk at) p last) d .answer ≡ success)
-      × (D .command l (awaitedBy (Chunk at) p last) d .bytes ≡ take (block * chunkBlocks (p .chunk) at (areaLast p last)) (drop (block * (at - 1)) (area d))))
-  -- the acknowledgement brings the header; nothing is asked of the drive after it but that it keeps what it kept
-  pub ack : (l : D .Lent) (last : List ℕ) (d : D .State) → Good d → forLent (D .command l (awaitedBy Ack p last) d .answer) ≡ false
-      → Header p (D .command l (awaitedBy Ack p last) d) (shows d)
+      → (asks D p (Chunk at) l last d .answer ≡ success)
+      × (asks D p (Chunk at) l last d .bytes ≡ take (block * chunkBlocks (p .chunk) at (areaLast p last)) (drop (block * (at - 1)) (area d))))
+  -- the acknowledgement brings the header; nothing is asked of the drive after it
+  pub ack : (l : D .Lent) (last : List ℕ) (d : D .State) → Good d → forLent (asks D p Ack l last d .answer) ≡ false → Header p (asks D p Ack l last d) (shows d)
