@@ -1,0 +1,120 @@
+-- What the functions of include/bumbazeel.h answer and leave in the bytes that they are lent: the definitions of the crates below, on what
+-- the bytes say. Bytes that are damaged are refused before anything else, with 4 for a record and 13 for a state.
+-- Assumes nothing.
+use Prim.Native.Nat.{ℕ, _+_, _*_}
+use mathlib.Core.List.{List}
+use mathlib.Core.Bool.{Bool, _&&_}
+use lib.ListN.{length}
+use lib.Dec.{leb, eqb}
+use Rattle.basics.specs.Choice.{pick}
+use Rattle.parts.specs.Parts.{zeros}
+use Rattle.answers.specs.Answers.{success, disagree, badSetup}
+use Rattle.answers.specs.declared.Status.{Status}
+use Rattle.words.specs.declared.Words.{Words}
+use Rattle.records.specs.declared.Identity.{Identity}
+use Rattle.records.specs.Records.{identityOk, freshOf}
+use Rattle.course.specs.declared.Plan.{Plan}
+use Rattle.collection.specs.declared.Next.the-variants.{Refused}
+use Rattle.collection.specs.declared.Stepped.{Stepped}
+use Rattle.collection.specs.Collection.{stepOf, copyAfter}
+use Rattle.controller.specs.Controller.{Candidate, world, Outcome, commandOf, captureOf}
+use Rattle.layouts.specs.Layouts.{flagOf, mostCaps, capsOf, recordBytes, recordAt, recordSound, stateBytes, stateAt, stateSound, kindOf, refusal, nextBytes}
+
+-- ---- numbers
+
+-- the number of an answer that has no NVMe status
+abbrev pub noNumber : ℕ
+noNumber = 0xFFFF
+
+-- a status as one number, type * 256 + code
+abbrev pub numberOf : Status → ℕ
+numberOf s = pick (s .given) (256 * s .sct + s .sc) noNumber
+
+-- ---- a collection
+
+-- what setup is asked for
+abbrev pub planOf : ℕ → ℕ → ℕ → ℕ → ℕ → ℕ → ℕ → Plan
+planOf page create area caps chunk attempts room = record {
+  page = page;
+  create = flagOf create;
+  area = area;
+  chunk = chunk;
+  attempts = attempts;
+  room = room;
+  caps = capsOf caps;
+}
+
+-- what a step leaves: the kind that it answers, the state's bytes, the copy, and the bytes of what follows
+pub record Stood : Type 0 where
+  pub kind : ℕ
+  pub state : List ℕ
+  pub copy : List ℕ
+  pub follows : List ℕ
+
+abbrev pub stood : ℕ → List ℕ → List ℕ → List ℕ → Stood
+stood kind state copy follows = record { kind = kind; state = state; copy = copy; follows = follows }
+
+-- a refusal leaves the state's bytes as they were
+abbrev pub stateAfter : List ℕ → Stepped → List ℕ
+stateAfter s x = pick (eqb (kindOf (x .next)) refusal) s (stateBytes (x .state))
+
+-- a step on a state's bytes, data d and a copy
+unfoldable pub stepAt : List ℕ → Bool → List ℕ → List ℕ → Stood
+stepAt s ok d copy =
+    pick (stateSound s)
+    (stood (kindOf (stepOf (stateAt s) ok d (length copy) .next)) (stateAfter s (stepOf (stateAt s) ok d (length copy)))
+    (copyAfter (stateAt s) ok d copy)
+    (nextBytes (stepOf (stateAt s) ok d (length copy) .next)))
+    (stood refusal s copy (nextBytes (Refused badSetup)))
+
+-- ---- a controller
+
+abbrev pub identityOf : ℕ → ℕ → ℕ → Identity
+identityOf oui hostscope ctrlscope = record { oui = oui; hostscope = hostscope; ctrlscope = ctrlscope }
+
+-- capabilities and an identity that a controller has
+unfoldable pub freshOk : ℕ → Identity → Bool
+freshOk caps identity = leb caps mostCaps && identityOk identity
+
+-- a fresh record's bytes, or zeros
+unfoldable pub freshBytes : ℕ → Identity → List ℕ
+freshBytes caps identity = pick (freshOk caps identity) (recordBytes (freshOf (capsOf caps) identity)) (zeros 300)
+
+-- a refusal leaves the record's bytes as they were
+abbrev pub recordAfter : List ℕ → Outcome → List ℕ
+recordAfter r o = pick (eqb (o .answer) success) (recordBytes (o .world .drive)) r
+
+-- what a command leaves: answer, class, the record's bytes, host store and buffer
+pub record Did : Type 0 where
+  pub answer : ℕ
+  pub class : ℕ
+  pub drive : List ℕ
+  pub host : List ℕ
+  pub buf : List ℕ
+
+abbrev pub did : ℕ → ℕ → List ℕ → List ℕ → List ℕ → Did
+did answer class drive host buf = record { answer = answer; class = class; drive = drive; host = host; buf = buf }
+
+abbrev pub didOf : List ℕ → Outcome → Did
+didOf r o = did (o .answer) (o .class) (recordAfter r o) (o .world .host) (o .buf)
+
+-- a command on a record's bytes, host store h and controller store k
+unfoldable pub commandAt : List ℕ → List ℕ → List ℕ → Candidate → Words → List ℕ → Did
+commandAt r h k cand words buf =
+    pick (recordSound r) (didOf r (commandOf (world (recordAt r) h k) cand words buf)) (did disagree 0 r h buf)
+
+-- what a capture leaves: answer, the record's bytes and controller store
+pub record Took : Type 0 where
+  pub answer : ℕ
+  pub drive : List ℕ
+  pub ctrl : List ℕ
+
+abbrev pub took : ℕ → List ℕ → List ℕ → Took
+took answer drive ctrl = record { answer = answer; drive = drive; ctrl = ctrl }
+
+abbrev pub tookOf : List ℕ → Outcome → Took
+tookOf r o = took (o .answer) (recordAfter r o) (o .world .ctrl)
+
+-- a capture on a record's bytes, host store h and controller store k
+unfoldable pub captureAt : List ℕ → List ℕ → List ℕ → Candidate → Took
+captureAt r h k cand = pick (recordSound r) (tookOf r (captureOf (world (recordAt r) h k) cand)) (took disagree r k)

@@ -1,0 +1,239 @@
+// The functions of include/bumbazeel.h: thin, over what the bytes that C lends say.
+//
+// It rests on layouts for the structs and on the crates of both sides for the work. It promises each function's answer and every lent byte
+// afterwards, for all arguments, as an equation with the definitions that those crates' contracts cite (specs/Boundary.antt). Damaged bytes
+// are refused, and what is refused changes nothing. A struct of the header file is an array of its bytes here, and a pointer with a length
+// is a slice. No store, copy or data is moved but by the call that serves it.
+use collection::Next;
+use course::Plan;
+use records::Identity;
+ghost use mathlib.Core.Path.{_≡_};
+ghost use Rattle.basics.specs.Choice.{pick};
+ghost use Rattle.answers.specs.Answers.{success, disagree, statusOf};
+ghost use Rattle.classes.specs.Classes.{classOf};
+ghost use Rattle.words.specs.Words.{builtOf};
+ghost use Rattle.header.specs.Header.{checkOf};
+ghost use Rattle.collection.specs.Collection.{setupOf};
+ghost use Rattle.controller.specs.Controller.{candidate};
+ghost use Rattle.layouts.specs.Layouts.{flagOf, wordsList, wordsOf, stateBytes, kindOf, nextBytes, fieldsBytes};
+ghost use Rattle.boundary.specs.Boundary.{numberOf, planOf, stood, stepAt, identityOf, freshOk, freshBytes, did, commandAt, took, captureAt};
+
+// The number of an answer that has no NVMe status.
+const NO_NUMBER: u16 = 0xffff;
+
+// ---- numbers
+
+// The class of a page identifier.
+#[no_mangle]
+pub extern "C" fn bumbazeel_class(page: u8) -> u8
+    ensures { λ r. ⌜ r ≡ classOf page ⌝ }
+{
+    classes::class(page)
+}
+
+// The NVMe status of an answer as one number.
+#[no_mangle]
+pub extern "C" fn bumbazeel_status(answer: u8) -> u16
+    ensures { λ r. ⌜ r ≡ numberOf (statusOf answer) ⌝ }
+{
+    let status = answers::status_of(answer);
+    if status.given {
+        256 * (status.sct as u16) + (status.sc as u16)
+    } else {
+        NO_NUMBER
+    }
+}
+
+// ---- the host side
+
+// Checks a header, and writes its fields, or zeros where it is bad.
+#[no_mangle]
+pub extern "C" fn bumbazeel_check(page: u8, da4s: u8, h: &[u8], fields: &mut [u8; 156]) -> u8
+    ensures { λ r. ⌜ (r ≡ checkOf page (flagOf da4s) (now (h .entry)) .answer) × (now (fields .exit) ≡ fieldsBytes (checkOf page (flagOf da4s) (now (h .entry)) .fields)) ⌝ }
+{
+    let x = header::check(page, da4s != 0, h);
+    let found = x.fields;
+    *fields = layouts::write_fields(found);
+    x.answer
+}
+
+// Builds the words of a command.
+#[no_mangle]
+pub extern "C" fn bumbazeel_words(
+    page: u8,
+    create: u8,
+    mcda: u8,
+    rae: u8,
+    offset: u32,
+    blocks: u32,
+    words: &mut [u32; 5],
+) -> u8
+    ensures { λ r. ⌜ (r ≡ builtOf page (flagOf create) mcda (flagOf rae) offset blocks .answer) × (now (words .exit) ≡ wordsList (builtOf page (flagOf create) mcda (flagOf rae) offset blocks .words)) ⌝ }
+{
+    let x = words::build(page, create != 0, mcda, rae != 0, offset, blocks);
+    let built = x.words;
+    *words = layouts::write_words(built);
+    x.answer
+}
+
+// Begins a collection: writes its state and what follows.
+#[no_mangle]
+pub extern "C" fn bumbazeel_setup(
+    page: u8,
+    create: u8,
+    area: u8,
+    caps: u8,
+    chunk: u32,
+    attempts: u32,
+    room: usize,
+    state: &mut [u8; 56],
+    next: &mut [u8; 32],
+) -> u8
+    ensures { λ r. ⌜ (r ≡ kindOf (setupOf (planOf page create area caps chunk attempts room) .next)) × (now (state .exit) ≡ stateBytes (setupOf (planOf page create area caps chunk attempts room) .state)) × (now (next .exit) ≡ nextBytes (setupOf (planOf page create area caps chunk attempts room) .next)) ⌝ }
+{
+    let can = layouts::read_caps(caps);
+    let x = collection::setup(Plan {
+        page,
+        create: create != 0,
+        area,
+        chunk,
+        attempts,
+        room,
+        caps: can,
+    });
+    let begun = x.state;
+    let follows = x.next;
+    *state = layouts::write_state(begun);
+    *next = layouts::write_next(follows);
+    layouts::kind(follows)
+}
+
+// Takes a completion: writes the next state, unless it refuses, the copy, and what follows.
+#[no_mangle]
+pub extern "C" fn bumbazeel_step(
+    state: &mut [u8; 56],
+    ok: u8,
+    data: &[u8],
+    copy: &mut [u8],
+    next: &mut [u8; 32],
+) -> u8
+    ensures { λ r. ⌜ stood r (now (state .exit)) (now (copy .exit)) (now (next .exit)) ≡ stepAt (now (state .entry)) (flagOf ok) (now («data» .entry)) (now (copy .entry)) ⌝ }
+{
+    let lent = *state;
+    if !layouts::state_sound(&lent) {
+        *next = layouts::write_next(Next::Refused(answers::BAD_SETUP));
+        return layouts::REFUSED;
+    }
+    let x = layouts::read_state(&lent).step(ok != 0, data, copy);
+    let after = x.state;
+    let follows = x.next;
+    *next = layouts::write_next(follows);
+    let kind = layouts::kind(follows);
+    if kind == layouts::REFUSED {
+        return kind;
+    }
+    *state = layouts::write_state(after);
+    kind
+}
+
+// ---- the controller side
+
+// Writes a record before any capture, or zeros.
+#[no_mangle]
+pub extern "C" fn bumbazeel_fresh(
+    caps: u8,
+    oui: u32,
+    host_scope: u8,
+    controller_scope: u8,
+    drive: &mut [u8; 300],
+) -> u8
+    ensures { λ r. ⌜ (r ≡ pick (freshOk caps (identityOf oui «host_scope» «controller_scope»)) success disagree) × (now (drive .exit) ≡ freshBytes caps (identityOf oui «host_scope» «controller_scope»)) ⌝ }
+{
+    let fresh = records::fresh(
+        layouts::read_caps(caps),
+        Identity {
+            oui,
+            hostscope: host_scope,
+            ctrlscope: controller_scope,
+        },
+    );
+    if (caps <= layouts::MOST_CAPS) & records::agrees(fresh, 0, 0) {
+        *drive = layouts::write_record(fresh);
+        return answers::SUCCESS;
+    }
+    *drive = [0; 300];
+    answers::DISAGREE
+}
+
+// Answers a command: writes record, host store and buffer where it succeeds, and the class.
+#[no_mangle]
+pub extern "C" fn bumbazeel_command(
+    drive: &mut [u8; 300],
+    host_store: &mut [u8],
+    controller_store: &[u8],
+    last: &[u32; 4],
+    bytes: &[u8],
+    reason: &[u8],
+    words: &[u32; 5],
+    buffer: &mut [u8],
+    class: &mut u8,
+) -> u8
+    ensures { λ r. ⌜ did r (now (class .exit)) (now (drive .exit)) (now («host_store» .exit)) (now (buffer .exit)) ≡ commandAt (now (drive .entry)) (now («host_store» .entry)) (now («controller_store» .entry)) (candidate (now (last .entry)) (now (bytes .entry)) (now (reason .entry))) (wordsOf (now (words .entry))) (now (buffer .entry)) ⌝ }
+{
+    let lent = *drive;
+    if !layouts::record_sound(&lent) {
+        *class = 0;
+        return answers::DISAGREE;
+    }
+    let x = controller::command(
+        layouts::read_record(&lent),
+        host_store,
+        controller_store,
+        *last,
+        bytes,
+        reason,
+        layouts::read_words(*words),
+        buffer,
+    );
+    *class = x.class;
+    let answer = x.answer;
+    if answer != answers::SUCCESS {
+        return answer;
+    }
+    let after = x.drive;
+    *drive = layouts::write_record(after);
+    answer
+}
+
+// Takes a capture of the controller's own: writes record and controller store where it succeeds.
+#[no_mangle]
+pub extern "C" fn bumbazeel_capture(
+    drive: &mut [u8; 300],
+    host_store: &[u8],
+    controller_store: &mut [u8],
+    last: &[u32; 4],
+    bytes: &[u8],
+    reason: &[u8],
+) -> u8
+    ensures { λ r. ⌜ took r (now (drive .exit)) (now («controller_store» .exit)) ≡ captureAt (now (drive .entry)) (now («host_store» .entry)) (now («controller_store» .entry)) (candidate (now (last .entry)) (now (bytes .entry)) (now (reason .entry))) ⌝ }
+{
+    let lent = *drive;
+    if !layouts::record_sound(&lent) {
+        return answers::DISAGREE;
+    }
+    let x = controller::capture(
+        layouts::read_record(&lent),
+        host_store,
+        controller_store,
+        *last,
+        bytes,
+        reason,
+    );
+    let answer = x.answer;
+    if answer != answers::SUCCESS {
+        return answer;
+    }
+    let after = x.drive;
+    *drive = layouts::write_record(after);
+    answer
+}

@@ -1,0 +1,165 @@
+/* Bumbazeel across a plain C boundary: the proved telemetry bench for NVMe pages 07h and 08h.
+ *
+ * Every function is total: any numbers and any bytes give a named answer, and nobody is asked to check first. What a pointer must be
+ * is what C's types say: a struct or an array of fixed length is there in full, and so are the bytes of each pointer with a length
+ * (with a length of 0 the pointer may be NULL). What is written must not overlap anything else that is lent to the same call. No
+ * function keeps a pointer, allocates, reads a clock or writes anywhere but where it says, so calls on different bytes may run in
+ * different threads.
+ *
+ * A flag is a byte: 0 is no and anything else is yes. All structs are laid out with no padding but the named `zero` bytes, numbers
+ * little-endian, as the offsets beside the fields say; a test holds the library to them. */
+#ifndef BUMBAZEEL_H
+#define BUMBAZEEL_H
+
+#include <stddef.h>
+#include <stdint.h>
+
+#ifdef __cplusplus
+extern "C" {
+#endif
+
+/* ---- answers (document 01's numbers) */
+enum {
+    BUMBAZEEL_SUCCESS = 0,
+    BUMBAZEEL_INVALID_FIELD = 1,     /* Invalid Field in Command (generic status 02h) */
+    BUMBAZEEL_INVALID_LOG_PAGE = 2,  /* Invalid Log Page (command specific status 09h) */
+    BUMBAZEEL_SHORT_BUFFER = 3,      /* transfer buffer shorter than the transfer */
+    BUMBAZEEL_DISAGREE = 4,          /* record and lent stores disagree, or the record is damaged */
+    BUMBAZEEL_BROKEN_CANDIDATE = 5,
+    BUMBAZEEL_NO_AREA_4 = 6,         /* area 4 wanted without DA4S and ETDAS */
+    BUMBAZEEL_BAD_HEADER = 7,
+    BUMBAZEEL_NO_ROOM = 8,           /* wanted area larger than the copy */
+    BUMBAZEEL_ATTEMPTS_USED_UP = 9,
+    BUMBAZEEL_WITHDRAWN = 10,        /* an 08h header no longer shows data available */
+    BUMBAZEEL_NOTHING = 11,          /* the first 08h header shows no data available */
+    BUMBAZEEL_BROKE_ITS_WORD = 12,   /* the controller refused what it may not refuse */
+    BUMBAZEEL_BAD_SETUP = 13,        /* bad setup, state or builder arguments */
+    BUMBAZEEL_ALREADY_ENDED = 14,
+    BUMBAZEEL_DOES_NOT_FIT = 15      /* the completion does not fit the awaited command */
+};
+
+/* ---- what a controller can do: a byte of five bits; a byte over 31 is damaged */
+enum {
+    BUMBAZEEL_EXTENDED = 1,  /* LPA bit 2: extended data, so offsets and long transfers */
+    BUMBAZEEL_TELEMETRY = 2, /* LPA bit 3: pages 07h and 08h */
+    BUMBAZEEL_DA4S = 4,      /* LPA bit 6: area 4 supported */
+    BUMBAZEEL_ETDAS = 8,     /* the host's yes to area 4 (Host Behavior Support) */
+    BUMBAZEEL_MCDAS = 16     /* MCDA is honoured */
+};
+
+/* ---- identifier classes */
+enum { BUMBAZEEL_CLASS_NAMED = 0, BUMBAZEEL_CLASS_ELSEWHERE = 1, BUMBAZEEL_CLASS_VENDOR = 2, BUMBAZEEL_CLASS_RESERVED = 3 };
+
+/* What a header says. 156 bytes. */
+struct bumbazeel_fields {
+    uint8_t page;                  /*   0: 07h or 08h */
+    uint8_t scope;                 /*   1 */
+    uint8_t host_generation;       /*   2: 0 on 08h */
+    uint8_t available;             /*   3: TCDA */
+    uint8_t controller_generation; /*   4 */
+    uint8_t zero[3];               /*   5 */
+    uint32_t oui;                  /*   8 */
+    uint32_t last[4];              /*  12: last blocks of areas 1 to 4 */
+    uint8_t reason[128];           /*  28 */
+};
+
+/* A collection's state. 56 bytes. Lend it back as it was given; one that no setup or step can have given gets 13. */
+struct bumbazeel_state {
+    uint8_t phase;      /*  0: what is awaited: 0 first header, 1 chunk, 2 closing header, 3 closing header after a refused chunk,
+                               4 acknowledgement, 5 nothing (ended) */
+    uint8_t page;       /*  1 */
+    uint8_t create;     /*  2: 0 or 1 */
+    uint8_t area;       /*  3: wanted area */
+    uint8_t caps;       /*  4 */
+    uint8_t generation; /*  5: of the attempt's header */
+    uint8_t zero[2];    /*  6 */
+    uint32_t chunk;     /*  8: blocks a command */
+    uint32_t attempts;  /* 12: attempts allowed */
+    uint32_t attempt;   /* 16: this attempt, from 1 */
+    uint32_t at;        /* 20: the block where the awaited chunk starts; 0 in any other phase */
+    uint64_t room;      /* 24: bytes of the copy */
+    uint64_t count;     /* 32: commands sent */
+    uint32_t last[4];   /* 40: last blocks of the attempt's header */
+};
+
+/* What follows a setup or a step. 32 bytes. */
+struct bumbazeel_next {
+    uint8_t kind;      /*  0: one of the three kinds below */
+    uint8_t answer;    /*  1: the number of an ending or a refusal; 0 with a command */
+    uint8_t newer;     /*  2: 1 if an ending acknowledged a newer capture unread */
+    uint8_t zero;      /*  3 */
+    uint32_t words[5]; /*  4: the next command, CDW10 to CDW14; zeros if there is none */
+    uint64_t count;    /* 24: with an ending, the number of commands sent; else 0 */
+};
+enum { BUMBAZEEL_SEND = 0, BUMBAZEEL_ENDED = 1, BUMBAZEEL_REFUSED = 2 };
+
+/* A controller's record. 300 bytes. Fill it in by hand or with bumbazeel_fresh; one that is damaged (`caps` over 31, `notice` over 1,
+ * `zero` not zero) gets 4. */
+struct bumbazeel_record {
+    uint8_t caps;                  /*   0 */
+    uint8_t host_scope;            /*   1: scope of 07h data, 1 or 2 */
+    uint8_t controller_scope;      /*   2: scope of 08h data, 1 or 2 */
+    uint8_t host_generation;       /*   3 */
+    uint8_t controller_generation; /*   4 */
+    uint8_t available;             /*   5: TCDA, 0 or 1 */
+    uint8_t notice;                /*   6: the event that tells a host of 08h data, 0 or 1 */
+    uint8_t zero;                  /*   7 */
+    uint32_t oui;                  /*   8: 24 bits */
+    uint32_t host_last[4];         /*  12: last blocks of 07h */
+    uint32_t controller_last[4];   /*  28: last blocks of 08h */
+    uint8_t host_reason[128];      /*  44 */
+    uint8_t controller_reason[128];/* 172 */
+};
+
+/* ---- host side */
+
+/* Checks a header of `bytes` bytes for the page asked for and the drive's DA4S. 0: *fields is what it says. 7: *fields is zeros. */
+uint8_t bumbazeel_check(uint8_t page, uint8_t da4s, const uint8_t *header, size_t bytes, struct bumbazeel_fields *fields);
+
+/* Builds the words of a Get Log Page: offset and length in blocks of 512 bytes, the header being block 0. 0: words are CDW10 to
+ * CDW14. 13: words are zeros. */
+uint8_t bumbazeel_words(uint8_t page, uint8_t create, uint8_t mcda, uint8_t rae, uint32_t offset, uint32_t blocks, uint32_t words[5]);
+
+/* Begins a collection into a copy of `room` bytes. Answers next->kind: BUMBAZEEL_SEND with the first command, or BUMBAZEEL_REFUSED
+ * with 13 or 6 and a state that has ended. *state and *next are written in both cases. */
+uint8_t bumbazeel_setup(uint8_t page, uint8_t create, uint8_t area, uint8_t caps, uint32_t chunk, uint32_t attempts, size_t room,
+                        struct bumbazeel_state *state, struct bumbazeel_next *next);
+
+/* Takes the completion of the awaited command: whether it succeeded, and its data (none with a refusal). Answers next->kind.
+ * BUMBAZEEL_SEND: a good chunk was written to its place in the copy, and the next command is awaited. BUMBAZEEL_ENDED: with success
+ * the copy holds the wanted area and zeros after it, else zeros alone. BUMBAZEEL_REFUSED: 14, 13 or 15; state and copy are as they
+ * were. *next is always written. */
+uint8_t bumbazeel_step(struct bumbazeel_state *state, uint8_t ok, const uint8_t *data, size_t bytes, uint8_t *copy, size_t room,
+                       struct bumbazeel_next *next);
+
+/* ---- controller side */
+
+/* Writes a record before any capture. 0, or 4 if `caps`, the OUI or a scope is none that a controller has; then *record is zeros. */
+uint8_t bumbazeel_fresh(uint8_t caps, uint32_t oui, uint8_t host_scope, uint8_t controller_scope, struct bumbazeel_record *record);
+
+/* Answers a command of any five words. Both stores are lent; so is a candidate (`last`, `bytes`, `reason`), which is read at a create on
+ * 07h alone. 0: the bytes asked for stand at the front of `buffer` and the rest of it stays; a create has taken the candidate into host
+ * store and record before; a command on 08h without RAE has cleared the record's 08h page after. Any other answer leaves record, stores
+ * and buffer as lent. *identifier_class is the class of the page identifier with answer 2, else 0. */
+uint8_t bumbazeel_command(struct bumbazeel_record *record, uint8_t *host_store, size_t host_bytes, const uint8_t *controller_store,
+                          size_t controller_bytes, const uint32_t last[4], const uint8_t *candidate, size_t candidate_bytes,
+                          const uint8_t *reason, size_t reason_bytes, const uint32_t words[5], uint8_t *buffer, size_t buffer_bytes,
+                          uint8_t *identifier_class);
+
+/* Takes a capture of the controller's own on 08h, over an unread one too: 0, 4 or 5. Only 0 changes record and controller store. */
+uint8_t bumbazeel_capture(struct bumbazeel_record *record, const uint8_t *host_store, size_t host_bytes, uint8_t *controller_store,
+                          size_t controller_bytes, const uint32_t last[4], const uint8_t *candidate, size_t candidate_bytes,
+                          const uint8_t *reason, size_t reason_bytes);
+
+/* ---- numbers */
+
+/* The class of a page identifier. */
+uint8_t bumbazeel_class(uint8_t page);
+
+/* The NVMe status of an answer, type * 256 + code: 0000h, 0002h and 0109h of 0, 1 and 2. FFFFh: it has none. */
+uint16_t bumbazeel_status(uint8_t answer);
+
+#ifdef __cplusplus
+}
+#endif
+#endif

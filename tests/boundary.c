@@ -1,0 +1,324 @@
+/* The C boundary as a C or C++ program sees it: sizes and offsets of the structs, and each function once or more, damaged bytes and
+ * NULL with a length of 0 among the arguments. It writes one line a failure and "boundary: ok" without any. */
+#include "bumbazeel.h"
+
+#include <stdio.h>
+#include <string.h>
+
+#ifdef __cplusplus
+#define FIXED(test, text) static_assert(test, text)
+#else
+#define FIXED(test, text) _Static_assert(test, text)
+#endif
+#define SIZE(type, bytes) FIXED(sizeof(struct type) == bytes, "size of " #type)
+#define AT(type, field, bytes) FIXED(offsetof(struct type, field) == bytes, "offset of " #type "." #field)
+
+SIZE(bumbazeel_fields, 156);
+AT(bumbazeel_fields, page, 0);
+AT(bumbazeel_fields, scope, 1);
+AT(bumbazeel_fields, host_generation, 2);
+AT(bumbazeel_fields, available, 3);
+AT(bumbazeel_fields, controller_generation, 4);
+AT(bumbazeel_fields, zero, 5);
+AT(bumbazeel_fields, oui, 8);
+AT(bumbazeel_fields, last, 12);
+AT(bumbazeel_fields, reason, 28);
+
+SIZE(bumbazeel_state, 56);
+AT(bumbazeel_state, phase, 0);
+AT(bumbazeel_state, page, 1);
+AT(bumbazeel_state, create, 2);
+AT(bumbazeel_state, area, 3);
+AT(bumbazeel_state, caps, 4);
+AT(bumbazeel_state, generation, 5);
+AT(bumbazeel_state, zero, 6);
+AT(bumbazeel_state, chunk, 8);
+AT(bumbazeel_state, attempts, 12);
+AT(bumbazeel_state, attempt, 16);
+AT(bumbazeel_state, at, 20);
+AT(bumbazeel_state, room, 24);
+AT(bumbazeel_state, count, 32);
+AT(bumbazeel_state, last, 40);
+
+SIZE(bumbazeel_next, 32);
+AT(bumbazeel_next, kind, 0);
+AT(bumbazeel_next, answer, 1);
+AT(bumbazeel_next, newer, 2);
+AT(bumbazeel_next, zero, 3);
+AT(bumbazeel_next, words, 4);
+AT(bumbazeel_next, count, 24);
+
+SIZE(bumbazeel_record, 300);
+AT(bumbazeel_record, caps, 0);
+AT(bumbazeel_record, host_scope, 1);
+AT(bumbazeel_record, controller_scope, 2);
+AT(bumbazeel_record, host_generation, 3);
+AT(bumbazeel_record, controller_generation, 4);
+AT(bumbazeel_record, available, 5);
+AT(bumbazeel_record, notice, 6);
+AT(bumbazeel_record, zero, 7);
+AT(bumbazeel_record, oui, 8);
+AT(bumbazeel_record, host_last, 12);
+AT(bumbazeel_record, controller_last, 28);
+AT(bumbazeel_record, host_reason, 44);
+AT(bumbazeel_record, controller_reason, 172);
+
+static int failures;
+
+static void expect_at(int line, const char *text, int holds) {
+    if (!holds) {
+        printf("boundary.c:%d: %s\n", line, text);
+        failures++;
+    }
+}
+#define expect(test) expect_at(__LINE__, #test, test)
+
+enum {
+    CAPS = BUMBAZEEL_EXTENDED | BUMBAZEEL_TELEMETRY | BUMBAZEEL_DA4S | BUMBAZEEL_ETDAS | BUMBAZEEL_MCDAS,
+    BLOCK = 512,
+    BLOCKS = 4
+};
+
+static int all(const void *bytes, size_t count, uint8_t value) {
+    for (size_t i = 0; i < count; i++)
+        if (((const uint8_t *)bytes)[i] != value)
+            return 0;
+    return 1;
+}
+
+/* A controller with stores of four blocks, the candidate that its next create or capture takes, and the last answer's class. */
+struct drive {
+    struct bumbazeel_record record;
+    uint8_t host[BLOCKS * BLOCK], controller[BLOCKS * BLOCK], candidate[BLOCKS * BLOCK], reason[128], identifier_class;
+    uint32_t last[4];
+};
+
+static uint8_t command(struct drive *d, const uint32_t words[5], uint8_t *buffer, size_t bytes) {
+    return bumbazeel_command(&d->record, d->host, sizeof d->host, d->controller, sizeof d->controller, d->last, d->candidate,
+                             (size_t)d->last[3] * BLOCK, d->reason, sizeof d->reason, words, buffer, bytes, &d->identifier_class);
+}
+
+static uint8_t capture(struct drive *d) {
+    return bumbazeel_capture(&d->record, d->host, sizeof d->host, d->controller, sizeof d->controller, d->last, d->candidate,
+                             (size_t)d->last[3] * BLOCK, d->reason, sizeof d->reason);
+}
+
+static void begin(struct drive *d) {
+    static const uint32_t last[4] = {1, 2, 3, 4};
+    memset(d, 0, sizeof *d);
+    expect(bumbazeel_fresh(CAPS, 0x123456, 1, 2, &d->record) == BUMBAZEEL_SUCCESS);
+    memcpy(d->last, last, sizeof last);
+    for (size_t i = 0; i < sizeof d->candidate; i++)
+        d->candidate[i] = (uint8_t)(i * 7 + i / BLOCK + 1);
+    memset(d->reason, 0xab, sizeof d->reason);
+}
+
+static void numbers(void) {
+    expect(bumbazeel_class(0x07) == BUMBAZEEL_CLASS_NAMED);
+    expect(bumbazeel_class(0x0e) == BUMBAZEEL_CLASS_ELSEWHERE);
+    expect(bumbazeel_class(0xc0) == BUMBAZEEL_CLASS_VENDOR);
+    expect(bumbazeel_class(0x24) == BUMBAZEEL_CLASS_RESERVED);
+    expect(bumbazeel_status(BUMBAZEEL_SUCCESS) == 0x0000);
+    expect(bumbazeel_status(BUMBAZEEL_INVALID_FIELD) == 0x0002);
+    expect(bumbazeel_status(BUMBAZEEL_INVALID_LOG_PAGE) == 0x0109);
+    for (int answer = 3; answer < 256; answer++)
+        expect(bumbazeel_status((uint8_t)answer) == 0xffff);
+}
+
+static void words(void) {
+    uint32_t built[5];
+    memset(built, 0xff, sizeof built);
+    expect(bumbazeel_words(0x07, 1, 3, 255, 0, 1, built) == BUMBAZEEL_SUCCESS);
+    expect(built[0] == 0x007f8707 && built[1] == 0 && built[2] == 0 && built[3] == 0 && built[4] == 0);
+    expect(bumbazeel_words(0x08, 0, 0, 0, 1048576, 8192, built) == BUMBAZEEL_SUCCESS);
+    expect(built[0] == 0xffff0008 && built[1] == 0xf && built[2] == 0x20000000 && built[3] == 0 && built[4] == 0);
+    expect(bumbazeel_words(0x08, 1, 0, 1, 0, 1, built) == BUMBAZEEL_BAD_SETUP);
+    expect(all(built, sizeof built, 0));
+}
+
+static void fresh(void) {
+    struct bumbazeel_record record;
+    memset(&record, 0xff, sizeof record);
+    expect(bumbazeel_fresh(CAPS, 0xffffff, 2, 1, &record) == BUMBAZEEL_SUCCESS);
+    expect(record.caps == CAPS && record.host_scope == 2 && record.controller_scope == 1 && record.oui == 0xffffff);
+    expect(all((uint8_t *)&record + 3, 5, 0) && all((uint8_t *)&record + 12, 288, 0));
+    expect(bumbazeel_fresh(32, 0, 1, 1, &record) == BUMBAZEEL_DISAGREE && all(&record, sizeof record, 0));
+    memset(&record, 0xff, sizeof record);
+    expect(bumbazeel_fresh(CAPS, 0x1000000, 1, 1, &record) == BUMBAZEEL_DISAGREE && all(&record, sizeof record, 0));
+    expect(bumbazeel_fresh(CAPS, 0, 0, 1, &record) == BUMBAZEEL_DISAGREE);
+    expect(bumbazeel_fresh(CAPS, 0, 1, 3, &record) == BUMBAZEEL_DISAGREE);
+}
+
+static void controller(void) {
+    struct drive d, before;
+    struct bumbazeel_fields fields;
+    uint32_t ask[5];
+    uint8_t buffer[2 * BLOCK];
+    begin(&d);
+
+    /* a create takes the candidate and shows it */
+    memset(buffer, 0x55, sizeof buffer);
+    bumbazeel_words(0x07, 1, 0, 1, 0, 1, ask);
+    d.identifier_class = 9;
+    expect(command(&d, ask, buffer, sizeof buffer) == BUMBAZEEL_SUCCESS && d.identifier_class == 0);
+    expect(d.record.host_generation == 1 && !memcmp(d.record.host_last, d.last, sizeof d.last) && !memcmp(d.record.host_reason, d.reason, 128));
+    expect(!memcmp(d.host, d.candidate, sizeof d.host) && all(buffer + BLOCK, BLOCK, 0x55));
+    expect(bumbazeel_check(0x07, 1, buffer, BLOCK, &fields) == BUMBAZEEL_SUCCESS);
+    expect(fields.page == 7 && fields.scope == 1 && fields.host_generation == 1 && fields.available == 0 && fields.controller_generation == 0);
+    expect(all(fields.zero, 3, 0) && fields.oui == 0x123456 && !memcmp(fields.last, d.last, sizeof d.last) && !memcmp(fields.reason, d.reason, 128));
+    expect(bumbazeel_check(0x08, 1, buffer, BLOCK, &fields) == BUMBAZEEL_BAD_HEADER && all(&fields, sizeof fields, 0));
+    expect(bumbazeel_check(0x07, 1, buffer, BLOCK - 1, &fields) == BUMBAZEEL_BAD_HEADER);
+    expect(bumbazeel_check(0x07, 1, NULL, 0, &fields) == BUMBAZEEL_BAD_HEADER);
+
+    /* blocks 2 and 3 of the area */
+    bumbazeel_words(0x07, 0, 0, 1, 2, 2, ask);
+    expect(command(&d, ask, buffer, sizeof buffer) == BUMBAZEEL_SUCCESS && !memcmp(buffer, d.host + BLOCK, 2 * BLOCK));
+
+    /* refusals change nothing */
+    before = d;
+    expect(command(&d, ask, buffer, BLOCK) == BUMBAZEEL_SHORT_BUFFER && command(&d, ask, NULL, 0) == BUMBAZEEL_SHORT_BUFFER);
+    ask[2]++;
+    expect(command(&d, ask, buffer, sizeof buffer) == BUMBAZEEL_INVALID_FIELD && !memcmp(&before, &d, sizeof d));
+    ask[0] = (ask[0] & ~0xffu) | 0xc0;
+    expect(command(&d, ask, buffer, sizeof buffer) == BUMBAZEEL_INVALID_LOG_PAGE && d.identifier_class == BUMBAZEEL_CLASS_VENDOR);
+    d.identifier_class = 0;
+    expect(!memcmp(&before, &d, sizeof d));
+    d.last[0] = 3;
+    expect(capture(&d) == BUMBAZEEL_BROKEN_CANDIDATE);
+    d.last[0] = 1;
+    expect(!memcmp(&before, &d, sizeof d));
+
+    /* a capture, and the acknowledgement that clears it */
+    expect(capture(&d) == BUMBAZEEL_SUCCESS);
+    expect(d.record.available == 1 && d.record.notice == 1 && d.record.controller_generation == 1 && !memcmp(d.controller, d.candidate, sizeof d.controller));
+    expect(!memcmp(d.record.controller_last, d.last, sizeof d.last) && !memcmp(d.record.controller_reason, d.reason, 128));
+    bumbazeel_words(0x08, 0, 0, 0, 0, 1, ask);
+    expect(command(&d, ask, buffer, sizeof buffer) == BUMBAZEEL_SUCCESS && bumbazeel_check(0x08, 1, buffer, BLOCK, &fields) == BUMBAZEEL_SUCCESS);
+    expect(fields.available == 1 && fields.scope == 2 && fields.controller_generation == 1 && fields.host_generation == 0);
+    expect(d.record.available == 0 && d.record.notice == 0 && all(d.record.controller_last, 16, 0) && d.record.controller_generation == 1);
+
+    /* damaged records */
+    for (int damage = 0; damage < 4; damage++) {
+        before = d;
+        if (damage == 0)
+            before.record.caps = 32;
+        else if (damage == 1)
+            before.record.notice = 2;
+        else if (damage == 2)
+            before.record.zero = 1;
+        else
+            before.record.host_scope = 3; /* not damaged, but it disagrees */
+        struct drive lent = before;
+        lent.identifier_class = 9;
+        memset(buffer, 0x55, sizeof buffer);
+        expect(command(&lent, ask, buffer, sizeof buffer) == BUMBAZEEL_DISAGREE && lent.identifier_class == 0 && all(buffer, sizeof buffer, 0x55));
+        expect(capture(&lent) == BUMBAZEEL_DISAGREE);
+        expect(!memcmp(&lent, &before, sizeof lent));
+    }
+
+    /* no stores, no candidate, no buffer */
+    struct bumbazeel_record alone;
+    uint8_t identifier_class;
+    bumbazeel_fresh(CAPS, 0, 1, 1, &alone);
+    expect(bumbazeel_command(&alone, NULL, 0, NULL, 0, d.last, NULL, 0, NULL, 0, ask, NULL, 0, &identifier_class) == BUMBAZEEL_SHORT_BUFFER);
+    expect(bumbazeel_capture(&alone, NULL, 0, NULL, 0, d.last, NULL, 0, NULL, 0) == BUMBAZEEL_BROKEN_CANDIDATE);
+}
+
+/* A whole collection of a page, from a drive that was captured on. */
+static void collection(uint8_t page, uint8_t create, unsigned commands) {
+    struct drive d;
+    struct bumbazeel_state state;
+    struct bumbazeel_next next;
+    uint8_t buffer[2 * BLOCK], copy[6 * BLOCK];
+    unsigned sent = 0;
+    begin(&d);
+    if (page == 0x08)
+        expect(capture(&d) == BUMBAZEEL_SUCCESS);
+    memset(copy, 0x55, sizeof copy);
+    expect(bumbazeel_setup(page, create, 4, CAPS, 2, 3, sizeof copy, &state, &next) == BUMBAZEEL_SEND);
+    expect(state.phase == 0 && state.page == page && state.create == create && state.area == 4 && state.caps == CAPS && state.chunk == 2);
+    expect(state.attempts == 3 && state.attempt == 1 && state.room == sizeof copy && state.count == 1 && state.at == 0);
+    while (next.kind == BUMBAZEEL_SEND && sent < 100) {
+        size_t bytes = ((next.words[0] >> 16) + 1) * 4;
+        expect(bytes <= sizeof buffer && next.answer == 0 && next.newer == 0 && next.count == 0 && next.zero == 0);
+        sent++;
+        uint8_t answer = command(&d, next.words, buffer, sizeof buffer);
+        if (answer != BUMBAZEEL_SUCCESS)
+            bytes = 0;
+        uint8_t kind = bumbazeel_step(&state, answer == BUMBAZEEL_SUCCESS ? 7 : 0, buffer, bytes, copy, sizeof copy, &next);
+        expect(kind == next.kind);
+    }
+    expect(next.kind == BUMBAZEEL_ENDED && next.answer == BUMBAZEEL_SUCCESS && next.newer == 0 && next.count == commands && sent == commands);
+    expect(all(next.words, sizeof next.words, 0) && state.phase == 5 && state.count == commands);
+    expect(!memcmp(copy, d.candidate, sizeof d.candidate) && all(copy + sizeof d.candidate, sizeof copy - sizeof d.candidate, 0));
+    struct bumbazeel_state ended = state;
+    expect(bumbazeel_step(&state, 1, NULL, 0, copy, sizeof copy, &next) == BUMBAZEEL_REFUSED && next.answer == BUMBAZEEL_ALREADY_ENDED);
+    expect(!memcmp(&ended, &state, sizeof state) && all(next.words, sizeof next.words, 0) && next.count == 0);
+}
+
+static void refused_setups(void) {
+    struct bumbazeel_state state;
+    struct bumbazeel_next next;
+    memset(&state, 0xff, sizeof state);
+    expect(bumbazeel_setup(0x07, 1, 4, CAPS, 0, 1, 512, &state, &next) == BUMBAZEEL_REFUSED && next.answer == BUMBAZEEL_BAD_SETUP);
+    expect(state.phase == 5 && state.count == 0 && next.kind == BUMBAZEEL_REFUSED && all(next.words, sizeof next.words, 0));
+    expect(bumbazeel_setup(0x07, 0, 4, CAPS & ~BUMBAZEEL_ETDAS, 1, 1, 512, &state, &next) == BUMBAZEEL_REFUSED && next.answer == BUMBAZEEL_NO_AREA_4);
+    expect(bumbazeel_setup(0x07, 0, 3, CAPS | 32, 1, 1, 512, &state, &next) == BUMBAZEEL_REFUSED && next.answer == BUMBAZEEL_BAD_SETUP);
+    expect(state.phase == 5 && state.caps == 0 && state.area == 3);
+    expect(bumbazeel_step(&state, 1, NULL, 0, NULL, 0, &next) == BUMBAZEEL_REFUSED && next.answer == BUMBAZEEL_ALREADY_ENDED);
+}
+
+/* Steps that refuse leave state and copy as they were: a damaged state, one that breaks setup's limits, and data that does not fit. */
+static void refused_steps(void) {
+    struct bumbazeel_state fine, before, state;
+    struct bumbazeel_next next;
+    uint8_t copy[BLOCK], data[BLOCK];
+    memset(copy, 0x55, sizeof copy);
+    memset(data, 0, sizeof data);
+    expect(bumbazeel_setup(0x07, 0, 1, CAPS, 1, 1, sizeof copy, &fine, &next) == BUMBAZEEL_SEND);
+    for (int damage = 0; damage < 8; damage++) {
+        before = fine;
+        if (damage == 0)
+            before.phase = 6;
+        else if (damage == 1)
+            before.create = 2;
+        else if (damage == 2)
+            before.caps = 32;
+        else if (damage == 3)
+            before.zero[0] = 1;
+        else if (damage == 4)
+            before.zero[1] = 1;
+        else if (damage == 5)
+            before.at = 0x01000000;
+        else if (damage == 6)
+            before.attempt = 2;
+        else
+            before.room = (uint64_t)1 << 63;
+        state = before;
+        memset(&next, 0xff, sizeof next);
+        expect(bumbazeel_step(&state, 1, data, sizeof data, copy, sizeof copy, &next) == BUMBAZEEL_REFUSED && next.answer == BUMBAZEEL_BAD_SETUP);
+        expect(!memcmp(&state, &before, sizeof state) && all(copy, sizeof copy, 0x55));
+        expect(next.kind == BUMBAZEEL_REFUSED && next.newer == 0 && next.zero == 0 && next.count == 0 && all(next.words, sizeof next.words, 0));
+    }
+    state = fine;
+    expect(bumbazeel_step(&state, 1, data, 1, copy, sizeof copy, &next) == BUMBAZEEL_REFUSED && next.answer == BUMBAZEEL_DOES_NOT_FIT);
+    expect(bumbazeel_step(&state, 0, NULL, 0, NULL, 0, &next) == BUMBAZEEL_REFUSED && next.answer == BUMBAZEEL_DOES_NOT_FIT);
+    expect(!memcmp(&state, &fine, sizeof state) && all(copy, sizeof copy, 0x55));
+    expect(bumbazeel_step(&state, 0, NULL, 0, copy, sizeof copy, &next) == BUMBAZEEL_ENDED && next.answer == BUMBAZEEL_BROKE_ITS_WORD);
+    expect(state.phase == 5 && next.count == 1 && all(copy, sizeof copy, 0));
+}
+
+int main(void) {
+    numbers();
+    words();
+    fresh();
+    controller();
+    collection(0x07, 1, 4);
+    collection(0x08, 0, 5);
+    refused_setups();
+    refused_steps();
+    if (failures)
+        return 1;
+    puts("boundary: ok");
+    return 0;
+}
