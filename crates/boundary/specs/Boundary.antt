@@ -2,9 +2,9 @@
 -- the bytes say. Bytes that are damaged are refused before anything else, with 4 for a record and 13 for a state.
 -- Assumes nothing.
 use Prim.Native.Nat.{ℕ, _+_, _*_}
-use mathlib.Core.List.{List}
-use mathlib.Core.Bool.{Bool, _&&_}
-use lib.ListN.{length}
+use mathlib.Core.List.{List, [], _∷_}
+use mathlib.Core.Bool.{Bool, not, _&&_}
+use lib.ListN.{length, getD}
 use lib.Dec.{leb, eqb}
 use Rattle.basics.specs.Choice.{pick}
 use Rattle.parts.specs.Parts.{zeros}
@@ -14,13 +14,26 @@ use Rattle.words.specs.declared.Words.{Words}
 use Rattle.records.specs.declared.Identity.{Identity}
 use Rattle.records.specs.Records.{identityOk, freshOf}
 use Rattle.course.specs.declared.Plan.{Plan}
-use Rattle.collection.specs.declared.Next.the-variants.{Refused}
+use Rattle.collection.specs.declared.Next.{Next}
+use Rattle.collection.specs.declared.Next.the-variants.{Send, Ended as Ends, Refused}
 use Rattle.collection.specs.declared.Stepped.{Stepped}
 use Rattle.collection.specs.Collection.{stepOf, copyAfter}
 use Rattle.controller.specs.Controller.{Candidate, world, Outcome, commandOf, captureOf}
-use Rattle.layouts.specs.Layouts.{flagOf, mostCaps, capsOf, recordBytes, recordAt, recordSound, stateBytes, stateAt, stateSound, kindOf, refusal, nextBytes}
+use Rattle.layouts.specs.Layouts.{mostCaps, capsOf, recordBytes, recordAt, recordSound, stateBytes, stateAt, stateSound, send, ending, refusal, nextBytes}
 
--- ---- numbers
+-- ---- flags, words, numbers
+
+-- a byte as a flag: 0 is no and anything else is yes
+abbrev pub flagOf : ℕ → Bool
+flagOf b = not (eqb b 0)
+
+-- five words as an array
+abbrev pub wordsList : Words → List ℕ
+wordsList w = w .cdw10 ∷ w .cdw11 ∷ w .cdw12 ∷ w .cdw13 ∷ w .cdw14 ∷ []
+
+-- the five words of an array
+abbrev pub wordsOf : List ℕ → Words
+wordsOf l = record { cdw10 = getD l 0 0; cdw11 = getD l 1 0; cdw12 = getD l 2 0; cdw13 = getD l 3 0; cdw14 = getD l 4 0 }
 
 -- the number of an answer that has no NVMe status
 abbrev pub noNumber : ℕ
@@ -31,6 +44,12 @@ abbrev pub numberOf : Status → ℕ
 numberOf s = pick (s .given) (256 * s .sct + s .sc) noNumber
 
 -- ---- a collection
+
+-- what follows: a command to send, an ending or a refusal
+abbrev pub kindOf : Next → ℕ
+kindOf (Send w) = send
+kindOf (Ends e) = ending
+kindOf (Refused answer) = refusal
 
 -- what setup is asked for
 abbrev pub planOf : ℕ → ℕ → ℕ → ℕ → ℕ → ℕ → ℕ → Plan

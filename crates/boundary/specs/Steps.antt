@@ -25,8 +25,8 @@ use Rattle.collection.specs.declared.Next.the-variants.{Refused}
 use Rattle.collection.specs.declared.Stepped.{Stepped}
 use Rattle.collection.specs.Collection.{stepOf, copyAfter}
 use Rattle.controller.specs.Controller.{Candidate, world, Outcome, outcome, commandOf, captureOf}
-use Rattle.layouts.specs.Layouts.{mostCaps, capsOf, wordsList, recordBytes, recordAt, recordSound, stateBytes, stateAt, stateSound, kindOf, refusal, nextBytes, fieldsBytes}
-use Rattle.boundary.specs.Boundary.{noNumber, numberOf, stood, stepAt, freshOk, freshBytes, recordAfter, did, didOf, commandAt, took, tookOf, captureAt}
+use Rattle.layouts.specs.Layouts.{mostCaps, capsOf, recordBytes, recordAt, recordSound, stateBytes, stateAt, stateSound, refusal, nextBytes, fieldsBytes}
+use Rattle.boundary.specs.Boundary.{wordsList, kindOf, noNumber, numberOf, stood, stepAt, freshOk, freshBytes, recordAfter, did, didOf, commandAt, took, tookOf, captureAt}
 
 -- ---- numbers and the host side
 
@@ -107,7 +107,7 @@ module _ (caps : ℕ) (i : Identity) {c : Caps} {r : Record} {t : Bool} (ec : c 
 
 -- ---- a command and a capture
 
-kept-record : (r : List ℕ) (o : Outcome) → (o .answer ≡ success → ⊥) → r ≡ recordAfter r o
+pub kept-record : (r : List ℕ) (o : Outcome) → (o .answer ≡ success → ⊥) → r ≡ recordAfter r o
 kept-record r o n = rw (ne-eqb (o .answer) success n)
 
 written-record : (r : List ℕ) (o : Outcome) → o .answer ≡ success → recordBytes (o .world .drive) ≡ recordAfter r o

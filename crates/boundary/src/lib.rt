@@ -7,6 +7,7 @@
 use collection::Next;
 use course::Plan;
 use records::Identity;
+use words::Words;
 ghost use mathlib.Core.Path.{_≡_};
 ghost use Rattle.basics.specs.Choice.{pick};
 ghost use Rattle.answers.specs.Answers.{success, disagree, statusOf};
@@ -15,8 +16,8 @@ ghost use Rattle.words.specs.Words.{builtOf};
 ghost use Rattle.header.specs.Header.{checkOf};
 ghost use Rattle.collection.specs.Collection.{setupOf};
 ghost use Rattle.controller.specs.Controller.{candidate};
-ghost use Rattle.layouts.specs.Layouts.{flagOf, wordsList, wordsOf, stateBytes, kindOf, nextBytes, fieldsBytes};
-ghost use Rattle.boundary.specs.Boundary.{numberOf, planOf, stood, stepAt, identityOf, freshOk, freshBytes, did, commandAt, took, captureAt};
+ghost use Rattle.layouts.specs.Layouts.{stateBytes, nextBytes, fieldsBytes};
+ghost use Rattle.boundary.specs.Boundary.{flagOf, wordsList, wordsOf, numberOf, kindOf, planOf, stood, stepAt, identityOf, freshOk, freshBytes, did, commandAt, took, captureAt};
 
 // The number of an answer that has no NVMe status.
 const NO_NUMBER: u16 = 0xffff;
@@ -44,7 +45,35 @@ pub extern "C" fn bumbazeel_status(answer: u8) -> u16
     }
 }
 
+fn words_list(w: Words) -> [u32; 5]
+    ensures { λ r. ⌜ r ≡ wordsList w ⌝ }
+{
+    [w.cdw10, w.cdw11, w.cdw12, w.cdw13, w.cdw14]
+}
+
+fn words_of(a: [u32; 5]) -> Words
+    ensures { λ r. ⌜ r ≡ wordsOf a ⌝ }
+{
+    Words {
+        cdw10: a[0],
+        cdw11: a[1],
+        cdw12: a[2],
+        cdw13: a[3],
+        cdw14: a[4],
+    }
+}
+
 // ---- the host side
+
+fn kind_of(next: Next) -> u8
+    ensures { λ r. ⌜ r ≡ kindOf next ⌝ }
+{
+    match next {
+        Next::Send(_) => layouts::SEND,
+        Next::Ended(_) => layouts::ENDED,
+        Next::Refused(_) => layouts::REFUSED,
+    }
+}
 
 // Checks a header, and writes its fields, or zeros where it is bad.
 #[no_mangle]
@@ -72,7 +101,7 @@ pub extern "C" fn bumbazeel_words(
 {
     let x = words::build(page, create != 0, mcda, rae != 0, offset, blocks);
     let built = x.words;
-    *words = layouts::write_words(built);
+    *words = words_list(built);
     x.answer
 }
 
@@ -105,7 +134,7 @@ pub extern "C" fn bumbazeel_setup(
     let follows = x.next;
     *state = layouts::write_state(begun);
     *next = layouts::write_next(follows);
-    layouts::kind(follows)
+    kind_of(follows)
 }
 
 // Takes a completion: writes the next state, unless it refuses, the copy, and what follows.
@@ -128,7 +157,7 @@ pub extern "C" fn bumbazeel_step(
     let after = x.state;
     let follows = x.next;
     *next = layouts::write_next(follows);
-    let kind = layouts::kind(follows);
+    let kind = kind_of(follows);
     if kind == layouts::REFUSED {
         return kind;
     }
@@ -192,7 +221,7 @@ pub extern "C" fn bumbazeel_command(
         *last,
         bytes,
         reason,
-        layouts::read_words(*words),
+        words_of(*words),
         buffer,
     );
     *class = x.class;

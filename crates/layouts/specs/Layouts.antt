@@ -3,7 +3,7 @@
 -- Assumes nothing.
 use Prim.Native.Nat.{ℕ, _+_}
 use mathlib.Core.List.{List, [], _∷_, _++_}
-use mathlib.Core.Bool.{Bool, not, _&&_, _||_}
+use mathlib.Core.Bool.{Bool, _&&_, _||_}
 use lib.ListN.{getD, take, drop}
 use lib.Dec.{leb, eqb}
 use Rattle.basics.specs.Choice.{pick}
@@ -23,11 +23,7 @@ use Rattle.collection.specs.declared.Collection.{Collection}
 use Rattle.collection.specs.declared.Next.{Next}
 use Rattle.collection.specs.declared.Next.the-variants.{Send, Ended as Ends, Refused}
 
--- ---- flags, capabilities, last blocks, words
-
--- a byte as a flag: 0 is no and anything else is yes
-abbrev pub flagOf : ℕ → Bool
-flagOf b = not (eqb b 0)
+-- ---- capabilities, last blocks, reasons
 
 -- the greatest byte of five bits
 abbrev pub mostCaps : ℕ
@@ -56,14 +52,6 @@ lastAt i b = valueAt 4 i b ∷ valueAt 4 (i + 4) b ∷ valueAt 4 (i + 8) b ∷ v
 -- the 128 bytes of a reason from i on
 abbrev pub reasonAt : ℕ → List ℕ → List ℕ
 reasonAt i b = take 128 (drop i b)
-
--- five words as an array
-abbrev pub wordsList : Words → List ℕ
-wordsList w = w .cdw10 ∷ w .cdw11 ∷ w .cdw12 ∷ w .cdw13 ∷ w .cdw14 ∷ []
-
--- the five words of an array
-abbrev pub wordsOf : List ℕ → Words
-wordsOf l = record { cdw10 = getD l 0 0; cdw11 = getD l 1 0; cdw12 = getD l 2 0; cdw13 = getD l 3 0; cdw14 = getD l 4 0 }
 
 -- ---- struct bumbazeel_record
 
@@ -204,15 +192,15 @@ stateSound b =
 
 -- ---- struct bumbazeel_next
 
--- the kind of a refusal
+-- the kinds: a command to send, an ending, a refusal
+abbrev pub send : ℕ
+send = 0
+
+abbrev pub ending : ℕ
+ending = 1
+
 abbrev pub refusal : ℕ
 refusal = 2
-
--- a command to send, an ending, a refusal
-abbrev pub kindOf : Next → ℕ
-kindOf (Send w) = 0
-kindOf (Ends e) = 1
-kindOf (Refused answer) = refusal
 
 -- kind, answer, newer, words and count as 32 bytes
 unfoldable pub nextParts : ℕ → ℕ → ℕ → Words → ℕ → List ℕ
@@ -227,8 +215,8 @@ nextParts kind answer newer w count =
 
 -- what follows, as 32 bytes
 unfoldable pub nextBytes : Next → List ℕ
-nextBytes (Send w) = nextParts 0 0 0 w 0
-nextBytes (Ends e) = nextParts 1 (e .answer) (pick (e .newer) 1 0) noWords (e .count)
+nextBytes (Send w) = nextParts send 0 0 w 0
+nextBytes (Ends e) = nextParts ending (e .answer) (pick (e .newer) 1 0) noWords (e .count)
 nextBytes (Refused answer) = nextParts refusal answer 0 noWords 0
 
 -- ---- struct bumbazeel_fields

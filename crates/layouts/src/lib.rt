@@ -20,7 +20,7 @@ ghost use Rattle.basics.specs.Choice.{pick};
 ghost use Rattle.basics.specs.Numbers.{bytesOf, valueAt};
 ghost use Rattle.parts.specs.Parts.{putAt};
 ghost use Rattle.words.specs.Words.{noWords};
-ghost use Rattle.layouts.specs.Layouts.{capsByte, capsOf, lastBytes, lastAt, reasonAt, wordsList, wordsOf, recordMarks, recordBytes, hostAt, ctrlAt, recordAt, recordSound, phaseByte, chunkStart, phaseOf, stateMarks, stateBytes, planAt, stateAt, stateSound, kindOf, nextParts, nextBytes, fieldsBytes};
+ghost use Rattle.layouts.specs.Layouts.{capsByte, capsOf, lastBytes, lastAt, reasonAt, recordMarks, recordBytes, hostAt, ctrlAt, recordAt, recordSound, phaseByte, chunkStart, phaseOf, stateMarks, stateBytes, planAt, stateAt, stateSound, nextParts, nextBytes, fieldsBytes};
 
 // The greatest byte of capabilities.
 pub const MOST_CAPS: u8 = 31;
@@ -144,28 +144,6 @@ fn reason_at(b: &[u8], i: usize) -> [u8; 128]
     let mut reason = [0u8; 128];
     parts::put(&b[i..i + 128], &mut reason, 0);
     reason
-}
-
-// ---- five words
-
-// The words as an array.
-pub fn write_words(w: Words) -> [u32; 5]
-    ensures { λ r. ⌜ r ≡ wordsList w ⌝ }
-{
-    [w.cdw10, w.cdw11, w.cdw12, w.cdw13, w.cdw14]
-}
-
-// The words of an array.
-pub fn read_words(a: [u32; 5]) -> Words
-    ensures { λ r. ⌜ r ≡ wordsOf a ⌝ }
-{
-    Words {
-        cdw10: a[0],
-        cdw11: a[1],
-        cdw12: a[2],
-        cdw13: a[3],
-        cdw14: a[4],
-    }
 }
 
 // ---- a controller's record
@@ -391,17 +369,6 @@ pub fn state_sound(b: &[u8; 56]) -> bool
 }
 
 // ---- what follows a setup or a step
-
-// Whether it is a command to send, an ending or a refusal.
-pub fn kind(next: Next) -> u8
-    ensures { λ r. ⌜ r ≡ kindOf next ⌝ }
-{
-    match next {
-        Next::Send(_) => SEND,
-        Next::Ended(_) => ENDED,
-        Next::Refused(_) => REFUSED,
-    }
-}
 
 fn next_parts(kind: u8, answer: u8, newer: u8, w: Words, count: u64) -> [u8; 32]
     ensures { λ x. ⌜ x ≡ nextParts kind answer newer w count ⌝ }

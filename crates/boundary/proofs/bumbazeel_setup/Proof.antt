@@ -1,4 +1,4 @@
-use Rattle.layouts.specs.Layouts.{flagOf}
+use Rattle.boundary.specs.Boundary.{flagOf}
 use Rattle.collection.specs.Collection.{setupOf}
 use Rattle.course.specs.declared.Plan.{Plan}
 use Rattle.pages.specs.declared.Caps.{Caps}
@@ -10,7 +10,6 @@ use Rattle.boundary.proofs.bumbazeel_setup.Tie as tie
 use Rattle.boundary.proofs.bumbazeel_setup.Reads as reads
 use Rattle.boundary.proofs.bumbazeel_setup.Lts as lts
 use Rattle.collection.proofs.setup.Reads as setup-reads
-use Rattle.layouts.proofs.kind.Reads as kind-reads
 use Rattle.layouts.proofs.read_caps.Reads as read-caps-reads
 use Rattle.layouts.proofs.write_next.Reads as write-next-reads
 use Rattle.layouts.proofs.write_state.Reads as write-state-reads
@@ -32,12 +31,12 @@ write-next-requires : tie.Need-write-next-requires
 write-next-requires c κs = search needs
 
 -- src/lib.rt:109:5
-kind-requires : tie.Need-kind-requires
-kind-requires c κs = search needs
+kind-of-requires : tie.Need-kind-of-requires
+kind-of-requires c κs = search needs
 
 -- src/lib.rt:81:1
 returns : tie.Need-returns
-returns c = let a = c .before .before .before .before .before .before .args in setup-is (c .before .before .before .before .setup .ensures ∙ ap (λ (x : Caps). setupOf (record { page = a .page; create = flagOf (a .create); area = a .area; chunk = a .chunk; attempts = a .attempts; room = a .room; caps = x })) (c .before .before .before .before .before .read-caps .ensures)) (c .before .before .write-state .ensures) (c .before .write-next .ensures) (c .kind .ensures)
+returns c = let a = c .before .before .before .before .before .before .args in setup-is (c .before .before .before .before .setup .ensures ∙ ap (λ (x : Caps). setupOf (record { page = a .page; create = flagOf (a .create); area = a .area; chunk = a .chunk; attempts = a .attempts; room = a .room; caps = x })) (c .before .before .before .before .before .read-caps .ensures)) (c .before .before .write-state .ensures) (c .before .write-next .ensures) (c .kind-of .ensures)
 
 pub bumbazeel-setup-spec : {M : Type 1} → statement M
 bumbazeel-setup-spec =
@@ -47,5 +46,5 @@ bumbazeel-setup-spec =
     setup-requires
     write-state-requires
     write-next-requires
-    kind-requires
+    kind-of-requires
     returns)

@@ -1,4 +1,4 @@
-use Rattle.layouts.specs.Layouts.{flagOf}
+use Rattle.boundary.specs.Boundary.{flagOf}
 use Rattle.boundary.specs.Steps.{step-damaged, step-refused, step-taken}
 use borrow.Author.Needs.{needs}
 use Rattle.boundary.proofs.bumbazeel_step.Statement.{statement}
@@ -6,7 +6,6 @@ use Rattle.boundary.proofs.bumbazeel_step.Tie as tie
 use Rattle.boundary.proofs.bumbazeel_step.Reads as reads
 use Rattle.boundary.proofs.bumbazeel_step.Lts as lts
 use Rattle.collection.proofs.Collection.step.Reads as step-reads
-use Rattle.layouts.proofs.kind.Reads as kind-reads
 use Rattle.layouts.proofs.read_state.Reads as read-state-reads
 use Rattle.layouts.proofs.state_sound.Reads as state-sound-reads
 use Rattle.layouts.proofs.write_next.Reads as write-next-reads
@@ -37,8 +36,8 @@ write-next-requires-2 : tie.Need-write-next-requires-2
 write-next-requires-2 c κs = search needs
 
 -- src/lib.rt:132:9
-kind-requires : tie.Need-kind-requires
-kind-requires c κs = search needs
+kind-of-requires : tie.Need-kind-of-requires
+kind-of-requires c κs = search needs
 
 -- src/lib.rt:134:9
 same-length : tie.Need-same-length
@@ -46,7 +45,7 @@ same-length c = search needs
 
 -- src/lib.rt:134:9
 returns-2 : tie.Need-returns-2
-returns-2 c = let a = c .before .before .before .before .before .before .before .before .before .before .before .before .before .before .before .before .args in step-refused (a .state .now) (flagOf (a .ok)) (a .data .now) (a .copy .now) (c .before .before .before .before .before .before .before .before .before .before .before .state-sound .ensures) (c .before .before .before .before .before .before .before .before .before .before .if1 .left) (c .before .before .before .before .before .before .before .before .read-state .ensures) (c .before .before .before .before .before .before .step .ensures) (c .before .before .write-next2 .ensures) (c .before .kind .ensures) (c .if2 .taken)
+returns-2 c = let a = c .before .before .before .before .before .before .before .before .before .before .before .before .before .before .before .before .args in step-refused (a .state .now) (flagOf (a .ok)) (a .data .now) (a .copy .now) (c .before .before .before .before .before .before .before .before .before .before .before .state-sound .ensures) (c .before .before .before .before .before .before .before .before .before .before .if1 .left) (c .before .before .before .before .before .before .before .before .read-state .ensures) (c .before .before .before .before .before .before .step .ensures) (c .before .before .write-next2 .ensures) (c .before .kind-of .ensures) (c .if2 .taken)
 
 -- src/lib.rt:136:14
 write-state-requires : tie.Need-write-state-requires
@@ -58,7 +57,7 @@ same-length-2 c = search needs
 
 -- src/lib.rt:113:1
 returns-3 : tie.Need-returns-3
-returns-3 c = let a = c .before .before .before .before .before .before .before .before .before .before .before .before .before .before .before .before .before .args in step-taken (a .state .now) (flagOf (a .ok)) (a .data .now) (a .copy .now) (c .before .before .before .before .before .before .before .before .before .before .before .before .state-sound .ensures) (c .before .before .before .before .before .before .before .before .before .before .before .if1 .left) (c .before .before .before .before .before .before .before .before .before .read-state .ensures) (c .before .before .before .before .before .before .before .step .ensures) (c .before .before .before .write-next2 .ensures) (c .before .before .kind .ensures) (c .before .if2 .left) (c .write-state .ensures)
+returns-3 c = let a = c .before .before .before .before .before .before .before .before .before .before .before .before .before .before .before .before .before .args in step-taken (a .state .now) (flagOf (a .ok)) (a .data .now) (a .copy .now) (c .before .before .before .before .before .before .before .before .before .before .before .before .state-sound .ensures) (c .before .before .before .before .before .before .before .before .before .before .before .if1 .left) (c .before .before .before .before .before .before .before .before .before .read-state .ensures) (c .before .before .before .before .before .before .before .step .ensures) (c .before .before .before .write-next2 .ensures) (c .before .before .kind-of .ensures) (c .before .if2 .left) (c .write-state .ensures)
 
 pub bumbazeel-step-spec : {M : Type 1} → statement M
 bumbazeel-step-spec =
@@ -70,7 +69,7 @@ bumbazeel-step-spec =
     read-state-requires
     step-requires
     write-next-requires-2
-    kind-requires
+    kind-of-requires
     same-length
     returns-2
     write-state-requires

@@ -41,7 +41,7 @@ long-at-requires c κs = search needs
 
 -- src/lib.rt:329:1
 returns : tie.Need-returns
-returns c = cc
+returns c = rw (c .before .before .before .before .before .before .before .before .before .read-caps .ensures, c .before .before .before .before .word-at .ensures, c .before .before .word-at2 .ensures, c .long-at .ensures)
 
 pub plan-at-spec : {M : Type 1} → statement M
 plan-at-spec =

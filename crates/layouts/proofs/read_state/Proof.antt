@@ -45,7 +45,7 @@ element-copy-out-t7 c = search needs
 -- src/lib.rt:345:1
 returns : tie.Need-returns
 unfolding stateAt
-returns c = cc
+returns c = rw (c .before .before .before .before .before .before .before .before .before .before .before .plan-at .ensures, c .before .before .before .before .before .before .before .phase-of .ensures, c .before .before .before .before .before .before .before .before .word-at .ensures, c .before .before .before .before .before .last-at .ensures, c .before .before .before .word-at2 .ensures, c .before .long-at .ensures)
 
 pub read-state-spec : {M : Type 1} → statement M
 read-state-spec =

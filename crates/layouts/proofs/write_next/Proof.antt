@@ -1,3 +1,4 @@
+use mathlib.Core.Path.{_∙_}
 use Rattle.layouts.specs.Layouts.{nextBytes}
 use borrow.Author.Needs.{needs}
 use Rattle.layouts.proofs.write_next.Statement.{statement}
@@ -47,17 +48,17 @@ next-parts-requires-3 c κs = search needs
 -- src/lib.rt:415:1
 returns : tie.Need-returns
 unfolding nextBytes
-returns c = cc
+returns c = c .next-parts .ensures ∙ rw (c .before .before .next .given .1)
 
 -- src/lib.rt:415:1
 returns-2 : tie.Need-returns-2
 unfolding nextBytes
-returns-2 c = cc
+returns-2 c = c .next-parts2 .ensures ∙ rw (c .before .before .bit .ensures .0, c .before .no-words .ensures, c .before .before .before .before .next2 .given .1)
 
 -- src/lib.rt:415:1
 returns-3 : tie.Need-returns-3
 unfolding nextBytes
-returns-3 c = cc
+returns-3 c = c .next-parts3 .ensures ∙ rw (c .before .no-words2 .ensures, c .before .before .before .next3 .given .1)
 
 pub write-next-spec : {M : Type 1} → statement M
 write-next-spec =

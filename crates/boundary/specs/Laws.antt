@@ -1,0 +1,121 @@
+-- What a caller across the boundary may rest on: a refusal changes nothing, what is written is sound and so can be lent again, and
+-- damaged capabilities are refused.
+-- Assumes nothing.
+use Prim.Native.Nat.{ℕ, _<_}
+use mathlib.Core.Path.{_≡_, refl, sym, ap, _∙_}
+use mathlib.Core.List.{List}
+use mathlib.Core.Bool.{Bool, true, false, not, _&&_}
+use native.Mathlib.Omega.{arith}
+use lib.ListN.{length}
+use lib.Dec.{eqb}
+use borrow.Author.Tests.{lt-leb, eq-eqb}
+use Rattle.basics.specs.Choice.{pick-cases}
+use Rattle.basics.specs.Tests.{holds, each, by-test, clash, and-left}
+use Rattle.answers.specs.Answers.{success, badSetup}
+use Rattle.words.specs.declared.Words.{Words}
+use Rattle.course.specs.declared.Plan.{Plan}
+use Rattle.course.specs.declared.Seen.{Seen}
+use Rattle.course.specs.declared.Move.{Move}
+use Rattle.course.specs.declared.Move.the-variants.{Fail, Open, More, Skip, Acknowledge, Done}
+use Rattle.course.specs.Course.{planTests, setupAnswer}
+use Rattle.collection.specs.declared.Collection.{Collection}
+use Rattle.collection.specs.declared.Next.the-variants.{Refused}
+use Rattle.collection.specs.declared.Stepped.{Stepped}
+use Rattle.collection.specs.Collection.{refusalOf, actOf, lookOf, moveOf, setupOf, stepOf}
+use Rattle.collection.specs.Laws.{same-or-not}
+use Rattle.collection.specs.Steps.{setup-refused, refused-copy, taken-step}
+use Rattle.controller.specs.Controller.{World, world, Candidate, Outcome, commandOf, captureOf}
+use Rattle.controller.specs.Laws.{refusal-changes-nothing, capture-refusal-changes-nothing}
+use Rattle.layouts.specs.Layouts.{mostCaps, capsOf, recordBytes, recordAt, recordSound, stateBytes, stateAt, stateSound, refusal}
+use Rattle.layouts.specs.Back.{record-sound, state-sound}
+use Rattle.boundary.specs.Boundary.{kindOf, planOf, stateAfter, stepAt, recordAfter, commandAt, captureAt}
+use Rattle.boundary.specs.Steps.{kept-record}
+
+-- ---- a command and a capture
+
+module _ (r h k : List ℕ) (cand : Candidate) where
+  -- a command that is no success leaves the record's bytes, the host store and the buffer as lent
+  pub command-refusal : (words : Words) (buf : List ℕ) → (commandAt r h k cand words buf .answer ≡ success → ⊥)
+      → (commandAt r h k cand words buf .drive ≡ r) × (commandAt r h k cand words buf .host ≡ h) × (commandAt r h k cand words buf .buf ≡ buf)
+  unfolding commandAt
+  command-refusal words buf =
+      by-test (recordSound r)
+      (λ p.
+      rw p
+      (λ n.
+      let w = world (recordAt r) h k in
+      let f = refusal-changes-nothing w cand words buf n in
+      (sym (kept-record r (commandOf w cand words buf) n), ap (λ (x : World). x .host) (f .0), f .1)))
+      (λ p. rw p (λ n. (refl, refl, refl)))
+
+  -- a capture that is no success leaves the record's bytes and the controller store as lent
+  pub capture-refusal : (captureAt r h k cand .answer ≡ success → ⊥) → (captureAt r h k cand .drive ≡ r) × (captureAt r h k cand .ctrl ≡ k)
+  unfolding captureAt
+  capture-refusal =
+      by-test (recordSound r)
+      (λ p.
+      rw p
+      (λ n.
+      let w = world (recordAt r) h k in
+      (sym (kept-record r (captureOf w cand) n), ap (λ (x : World). x .ctrl) (capture-refusal-changes-nothing w cand n))))
+      (λ p. rw p (λ n. (refl, refl)))
+
+sound-after : (r : List ℕ) (o : Outcome) → recordSound r ≡ true → recordSound (recordAfter r o) ≡ true
+sound-after r o s =
+    pick-cases (λ (b : List ℕ). recordSound b ≡ true) (eqb (o .answer) success) (λ e. record-sound (o .world .drive)) (λ e. s)
+
+-- a sound record stays sound
+pub command-sound : (r h k : List ℕ) (cand : Candidate) (words : Words) (buf : List ℕ) → recordSound r ≡ true
+    → recordSound (commandAt r h k cand words buf .drive) ≡ true
+unfolding commandAt
+command-sound r h k cand words buf s = rw s (sound-after r (commandOf (world (recordAt r) h k) cand words buf) s)
+
+pub capture-sound : (r h k : List ℕ) (cand : Candidate) → recordSound r ≡ true → recordSound (captureAt r h k cand .drive) ≡ true
+unfolding captureAt
+capture-sound r h k cand s = rw s (sound-after r (captureOf (world (recordAt r) h k) cand) s)
+
+-- ---- a step
+
+-- what a completion calls for is no refusal
+act-kind : (s : Collection) (h : Seen) (m : Move) → kindOf (actOf s h m .stepped .next) ≡ refusal → ⊥
+unfolding actOf
+act-kind s h (Fail answer next) e = omega arith
+act-kind s h (Open next) e = omega arith
+act-kind s h (More at) e = omega arith
+act-kind s h Skip e = omega arith
+act-kind s h Acknowledge e = omega arith
+act-kind s h (Done newer) e = omega arith
+
+module _ (s : List ℕ) (ok : Bool) (d copy : List ℕ) where
+  refused-unread : kindOf (stepOf (stateAt s) ok d (length copy) .next) ≡ refusal
+      → refusalOf (stateAt s) ok (length d) (length copy) ≡ success → ⊥
+  refused-unread e q =
+      act-kind (stateAt s) (lookOf (stateAt s) d) (moveOf (stateAt s) ok (lookOf (stateAt s) d))
+      (ap (λ (x : Stepped). kindOf (x .next)) (sym (taken-step (stateAt s) ok d (length copy) q)) ∙ e)
+
+  -- a refused step leaves the state's bytes and the copy as lent
+  pub step-refusal : stepAt s ok d copy .kind ≡ refusal → (stepAt s ok d copy .state ≡ s) × (stepAt s ok d copy .copy ≡ copy)
+  unfolding stepAt
+  step-refusal =
+      by-test (stateSound s)
+      (λ p. rw p (λ e. (rw (eq-eqb _ refusal e), refused-copy (stateAt s) ok d copy (refused-unread e))))
+      (λ p. rw p (λ e. (refl, refl)))
+
+  -- a sound state stays sound
+  pub step-sound : stateSound s ≡ true → stateSound (stepAt s ok d copy .state) ≡ true
+  unfolding stepAt
+  step-sound p =
+      let x = stepOf (stateAt s) ok d (length copy) in
+      rw p (pick-cases (λ (b : List ℕ). stateSound b ≡ true) (eqb (kindOf (x .next)) refusal) (λ e. p) (λ e. state-sound (x .state)))
+
+-- ---- setup
+
+-- setup refuses capabilities over 31 with 13
+pub damaged-refused : (page create area caps chunk attempts room : ℕ) → mostCaps < caps
+    → setupAnswer (planOf page create area caps chunk attempts room) ≡ badSetup
+unfolding setupAnswer capsOf
+damaged-refused page create area caps chunk attempts room h =
+    let p = planOf page create area caps chunk attempts room in
+    by-test (holds (planTests p))
+    (λ t. clash {t = p .caps .ext} (and-left _ _ (each (planTests p) t 5)) (rw (lt-leb caps mostCaps h)))
+    (λ f. rw f)
