@@ -1,19 +1,80 @@
-# make test    proves every crate from nothing, tries the must-fail edits, runs the programs and the outside comparisons
-# make demo    shows what the proved parts do
-# make bench   measures serving against memcpy, as ratios in one run
+# make           builds the library, static and shared, and the program, in build/
+# make install   puts them in place, with header, pkg-config file and man page (PREFIX=/usr/local DESTDIR=)
+# make test      proves every crate from nothing, tries the must-fail edits, runs the programs and the outside comparisons
+# make sanitize  runs the program's tests with the address and undefined-behaviour sanitizers
+# make demo      shows a collection that a capture interrupts
+# make bench     measures serving against memcpy, as ratios in one run
+# make clean     removes what make built
+VERSION := 0.1.0
+SONAME := libbumbazeel.so.0
+PREFIX ?= /usr/local
 CFLAGS ?= -O2 -Wall -Wextra
-.PHONY: test demo bench
-.DEFAULT_GOAL := test
+INSTALL ?= install
+
+BINDIR ?= $(PREFIX)/bin
+LIBDIR ?= $(PREFIX)/lib
+INCLUDEDIR ?= $(PREFIX)/include
+MANDIR ?= $(PREFIX)/share/man
+
+.PHONY: all install test sanitize demo bench clean
+.DEFAULT_GOAL := all
+.DELETE_ON_ERROR:
+
+all: build/libbumbazeel.a build/libbumbazeel.so build/bumbazeel
+
+# The library is made only of what is proved, so its proofs are among what it is made from.
+CRATES := basics parts answers classes pages words header records serving verdicts controller course collection layouts boundary
+PROVED := crates.txt $(wildcard $(foreach c,$(CRATES),crates/$c/src/*.rt crates/$c/specs/*.antt crates/$c/proofs/*/*.antt))
+
+build/libbumbazeel.a: $(PROVED)
+	@mkdir -p build
+	rt staticlib boundary
+	cp target/staticlib/libboundary.a $@
+
+build/libbumbazeel.so: build/libbumbazeel.a program/exports.map Makefile
+	$(CC) $(CFLAGS) $(LDFLAGS) -shared -Wl,-soname,$(SONAME) -Wl,--version-script=program/exports.map -Wl,-z,noexecstack -Wl,-z,defs \
+		-Wl,--whole-archive build/libbumbazeel.a -Wl,--no-whole-archive -o $@
+
+# A second build with other flags, such as the sanitizers', has its objects elsewhere.
+OBJECTS ?= build/program
+SOURCES := $(wildcard program/*.c)
+PROGRAM_FLAGS := -std=c11 -D_DEFAULT_SOURCE -DVERSION='"$(VERSION)"' -Iinclude
+
+$(OBJECTS)/%.o: program/%.c Makefile
+	@mkdir -p $(@D)
+	$(CC) $(CPPFLAGS) $(CFLAGS) $(PROGRAM_FLAGS) -MMD -MP -c -o $@ $<
+
+$(OBJECTS)/bumbazeel: $(SOURCES:program/%.c=$(OBJECTS)/%.o) build/libbumbazeel.a
+	$(CC) $(CFLAGS) $(LDFLAGS) -Wl,-z,noexecstack -o $@ $^
+
+build/bumbazeel: build/program/bumbazeel
+	cp $< $@
+
+-include $(wildcard $(OBJECTS)/*.d)
+
+install: all
+	$(INSTALL) -d $(DESTDIR)$(BINDIR) $(DESTDIR)$(LIBDIR)/pkgconfig $(DESTDIR)$(INCLUDEDIR) $(DESTDIR)$(MANDIR)/man1
+	$(INSTALL) -m 755 build/bumbazeel $(DESTDIR)$(BINDIR)/bumbazeel
+	$(INSTALL) -m 644 build/libbumbazeel.a $(DESTDIR)$(LIBDIR)/libbumbazeel.a
+	$(INSTALL) -m 755 build/libbumbazeel.so $(DESTDIR)$(LIBDIR)/libbumbazeel.so.$(VERSION)
+	ln -sf libbumbazeel.so.$(VERSION) $(DESTDIR)$(LIBDIR)/$(SONAME)
+	ln -sf $(SONAME) $(DESTDIR)$(LIBDIR)/libbumbazeel.so
+	$(INSTALL) -m 644 include/bumbazeel.h $(DESTDIR)$(INCLUDEDIR)/bumbazeel.h
+	sed -e 's|@VERSION@|$(VERSION)|' -e 's|@PREFIX@|$(PREFIX)|' -e 's|@LIBDIR@|$(LIBDIR)|' -e 's|@INCLUDEDIR@|$(INCLUDEDIR)|' \
+		program/bumbazeel.pc.in >build/bumbazeel.pc
+	$(INSTALL) -m 644 build/bumbazeel.pc $(DESTDIR)$(LIBDIR)/pkgconfig/bumbazeel.pc
+	$(INSTALL) -m 644 program/bumbazeel.1 $(DESTDIR)$(MANDIR)/man1/bumbazeel.1
 
 test:
 	@tests/run
 
-demo:
-	@rt check commands listing endings
-	@target/bin/commands
-	@target/bin/listing
-	@target/bin/endings
-	@echo 'The collection from an embedded drive, which this command is to show, is not there yet.'
+sanitize: build/libbumbazeel.a
+	@$(MAKE) --no-print-directory OBJECTS=build/sanitize build/sanitize/bumbazeel \
+		CFLAGS='-O1 -g -fno-omit-frame-pointer -fsanitize=address,undefined -fno-sanitize-recover=all'
+	@BUMBAZEEL=build/sanitize/bumbazeel tests/outside/program
+
+demo: build/bumbazeel
+	@program/demo build/bumbazeel
 
 bench: build/bench_serving
 	@build/bench_serving
@@ -22,3 +83,6 @@ build/bench_serving: bench/serving.c crates/rig/src/lib.rt crates/controller/src
 	@mkdir -p build
 	rt staticlib rig
 	$(CC) $(CFLAGS) -o $@ bench/serving.c target/staticlib/librig.a
+
+clean:
+	rm -rf build

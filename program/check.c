@@ -1,0 +1,216 @@
+/* bumbazeel check: what the header of a saved file says, and whether the file is as long as it says. */
+#include "commands.h"
+
+#include "arguments.h"
+#include "bumbazeel.h"
+#include "say.h"
+
+#include <errno.h>
+#include <fcntl.h>
+#include <stdio.h>
+#include <stdlib.h>
+#include <string.h>
+#include <sys/stat.h>
+#include <unistd.h>
+
+enum { BLOCK = 512, REASON = 128, ROW = 16 };
+static const uint64_t LONGEST = 512u * (1u + 1048576u); /* a header and the largest area 4 */
+
+static const char help[] =
+    "usage: bumbazeel check [OPTIONS] FILE\n"
+    "\n"
+    "Shows the header of a saved telemetry page, the first 512 bytes of FILE, and which areas the file holds whole.\n"
+    "\n"
+    "  --page 07h|08h  the page it must be (by default the one that its first byte names)\n"
+    "  --area4         the drive has area 4 (DA4S 1)\n"
+    "  --no-area4      the drive has none (by default whichever of the two makes the header good)\n"
+    "  --json          print one JSON object\n";
+
+struct options {
+    const char *file;
+    uint8_t page; /* 0: by the first byte */
+    enum { EITHER, WITH_AREA_4, WITHOUT_AREA_4 } area_4;
+    bool json;
+};
+
+struct saved {
+    uint8_t header[BLOCK];
+    size_t header_bytes; /* less than 512 of a shorter file */
+    uint64_t bytes;      /* of the whole file; LONGEST + 1 of any that is longer */
+};
+
+struct finding {
+    struct bumbazeel_fields fields;
+    uint8_t answer;
+    bool da4s;
+    unsigned areas; /* that the header speaks of: 3 or 4 */
+    unsigned whole; /* the areas 1 to this one are in the file */
+    bool fits;      /* the file ends with the last block of the area `whole` */
+};
+
+static struct options read_options(char **words) {
+    struct options o = {.area_4 = EITHER};
+    struct arguments a = arguments_of("check", words);
+    const char *value;
+    while (argument_next(&a)) {
+        if (argument_flag(&a, "--help")) {
+            fputs(help, stdout);
+            close_stdout("");
+            exit(STATUS_SUCCESS);
+        }
+        if (argument_value(&a, "--page", &value))
+            o.page = page_of("--page", value);
+        else if (argument_flag(&a, "--area4"))
+            o.area_4 = WITH_AREA_4;
+        else if (argument_flag(&a, "--no-area4"))
+            o.area_4 = WITHOUT_AREA_4;
+        else if (argument_flag(&a, "--json"))
+            o.json = true;
+        else
+            argument_operand(&a, "FILE", &o.file);
+    }
+    if (!o.file)
+        die("check needs FILE, a saved telemetry page (bumbazeel check --help)");
+    return o;
+}
+
+/* Reads up to `bytes` bytes; fewer at the end of the file. */
+static size_t read_some(int file, const char *name, uint8_t *to, size_t bytes) {
+    size_t done = 0;
+    while (done < bytes) {
+        ssize_t n = read(file, to + done, bytes - done);
+        if (n < 0 && errno != EINTR)
+            die("%s: cannot read: %s", name, strerror(errno));
+        if (n == 0)
+            break;
+        if (n > 0)
+            done += (size_t)n;
+    }
+    return done;
+}
+
+static struct saved read_saved(const char *name) {
+    struct saved saved = {.bytes = 0};
+    struct stat about;
+    int file = open(name, O_RDONLY | O_CLOEXEC);
+    if (file < 0 || fstat(file, &about))
+        die("%s: cannot open: %s", name, strerror(errno));
+    saved.bytes = saved.header_bytes = read_some(file, name, saved.header, BLOCK);
+    if (S_ISREG(about.st_mode))
+        saved.bytes = (uint64_t)about.st_size < LONGEST ? (uint64_t)about.st_size : LONGEST + 1;
+    static uint8_t rest[1 << 16];
+    for (size_t n = 1; !S_ISREG(about.st_mode) && n && saved.bytes <= LONGEST; saved.bytes += n)
+        n = read_some(file, name, rest, sizeof rest); /* a pipe has no length; one without end is left */
+    close(file);
+    return saved;
+}
+
+static struct finding find(const struct options *o, const struct saved *saved) {
+    struct finding f = {.da4s = o->area_4 != WITHOUT_AREA_4};
+    uint8_t page = o->page ? o->page : saved->header[0];
+    f.answer = bumbazeel_check(page, f.da4s, saved->header, saved->header_bytes, &f.fields);
+    if (f.answer && o->area_4 == EITHER) {
+        f.da4s = false;
+        f.answer = bumbazeel_check(page, f.da4s, saved->header, saved->header_bytes, &f.fields);
+    }
+    f.areas = f.da4s ? 4 : 3;
+    for (unsigned area = 1; area <= f.areas; area++) {
+        uint64_t end = BLOCK * (1 + (uint64_t)f.fields.last[area - 1]);
+        if (f.answer == BUMBAZEEL_SUCCESS && saved->bytes >= end) {
+            f.whole = area;
+            f.fits = saved->bytes == end;
+        }
+    }
+    return f;
+}
+
+static const char *scope_name(uint8_t scope) {
+    return scope == 0 ? "not reported" : scope == 1 ? "controller" : "NVM subsystem";
+}
+
+/* Sixteen bytes a row, with their text; a tail of zeros is one row. */
+static void print_reason(const uint8_t reason[REASON]) {
+    size_t used = REASON;
+    while (used && !reason[used - 1])
+        used--;
+    for (size_t row = 0; row < REASON; row += ROW) {
+        printf("%-24s%02zX ", row ? "" : "reason", row);
+        if (row >= used) {
+            printf(" zeros to 7F\n");
+            return;
+        }
+        for (size_t i = row; i < row + ROW; i++)
+            printf(" %02X", reason[i]);
+        printf("  ");
+        for (size_t i = row; i < row + ROW; i++)
+            putchar(reason[i] >= ' ' && reason[i] < 127 ? reason[i] : '.');
+        putchar('\n');
+    }
+}
+
+static void print_length(const struct finding *f, const struct saved *saved) {
+    printf("%-24s", "file");
+    if (saved->bytes > LONGEST)
+        printf("longer than any telemetry page: ");
+    else
+        printf("%llu bytes: ", (unsigned long long)saved->bytes);
+    if (f->fits)
+        printf("the header and area %u, to its last block\n", f->whole);
+    else if (f->whole == f->areas)
+        printf("does not fit: more than the header and area %u\n", f->whole);
+    else if (f->whole)
+        printf("does not fit: area %u is whole, area %u is not\n", f->whole, f->whole + 1);
+    else
+        printf("does not fit: no area is whole\n");
+}
+
+static void print_table(const struct finding *f, const struct saved *saved) {
+    const struct bumbazeel_fields *h = &f->fields;
+    printf("%-24s%02Xh, telemetry %s-initiated\n", "page", h->page, h->page == 7 ? "host" : "controller");
+    printf("%-24s%06Xh\n", "OUI", (unsigned)h->oui);
+    printf("%-24s%u, %s\n", "scope", h->scope, scope_name(h->scope));
+    for (unsigned area = 1; area <= f->areas; area++)
+        printf("area %u %17slast block %u, %llu bytes\n", area, "", (unsigned)h->last[area - 1],
+               (unsigned long long)h->last[area - 1] * BLOCK);
+    if (h->page == 7)
+        printf("%-24s%u\n", "host generation", h->host_generation);
+    printf("%-24s%u\n", "controller generation", h->controller_generation);
+    printf("%-24s%s\n", "08h data available", h->available ? "yes" : "no");
+    print_reason(h->reason);
+    print_length(f, saved);
+}
+
+static const char *flag(bool value) { return value ? "true" : "false"; }
+
+static void print_json(const struct finding *f, const struct saved *saved) {
+    const struct bumbazeel_fields *h = &f->fields;
+    printf("{\"answer\": %u, \"meaning\": \"%s\"", f->answer, meaning(f->answer));
+    if (f->answer == BUMBAZEEL_SUCCESS) {
+        printf(", \"page\": \"%02Xh\", \"oui\": \"%06X\", \"scope\": %u, \"scope_name\": \"%s\", \"da4s\": %s", h->page, (unsigned)h->oui,
+               h->scope, scope_name(h->scope), flag(f->da4s));
+        printf(", \"last_blocks\": [%u, %u, %u, %u]", (unsigned)h->last[0], (unsigned)h->last[1], (unsigned)h->last[2],
+               (unsigned)h->last[3]);
+        if (h->page == 7)
+            printf(", \"host_generation\": %u", h->host_generation);
+        printf(", \"controller_generation\": %u, \"available\": %s, \"reason\": \"", h->controller_generation, flag(h->available));
+        for (size_t i = 0; i < REASON; i++)
+            printf("%02X", h->reason[i]);
+        printf("\", \"file_bytes\": %llu, \"areas_whole\": %u, \"length_fits\": %s", (unsigned long long)saved->bytes, f->whole,
+               flag(f->fits));
+    }
+    printf("}\n");
+}
+
+int check_command(char **words) {
+    struct options o = read_options(words);
+    struct saved saved = read_saved(o.file);
+    struct finding f = find(&o, &saved);
+    if (o.json)
+        print_json(&f, &saved);
+    else if (f.answer == BUMBAZEEL_SUCCESS)
+        print_table(&f, &saved);
+    else
+        printf("%-24s%u (%s)\n", "header", f.answer, meaning(f.answer));
+    close_stdout("");
+    return f.answer == BUMBAZEEL_SUCCESS && f.fits ? STATUS_SUCCESS : STATUS_OTHERWISE;
+}

@@ -1,0 +1,9 @@
+/* The program's commands: each takes the words after its name and answers the exit status. */
+#ifndef COMMANDS_H
+#define COMMANDS_H
+
+int collect_command(char **words);
+int check_command(char **words);
+int words_command(char **words);
+
+#endif
