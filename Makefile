@@ -23,8 +23,7 @@ MANDIR ?= $(PREFIX)/share/man
 all: build/libbumbazeel.a build/libbumbazeel.so build/bumbazeel
 
 # The library is made only of what is proved, so its proofs are among what it is made from.
-CRATES := basics parts answers classes pages words header records serving verdicts controller course collection layouts boundary
-PROVED := crates.txt $(wildcard $(foreach c,$(CRATES),crates/$c/src/*.rt crates/$c/specs/*.antt crates/$c/proofs/*/*.antt))
+PROVED := crates.txt $(wildcard crates/*/src/*.rt crates/*/specs/*.antt crates/*/proofs/*.antt crates/*/proofs/*/*.antt)
 
 build/libbumbazeel.a: $(PROVED)
 	@mkdir -p build

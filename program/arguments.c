@@ -1,6 +1,7 @@
 /* Strict reading of the command line. */
 #include "arguments.h"
 
+#include "numbers.h"
 #include "say.h"
 
 #include <stddef.h>
@@ -90,7 +91,7 @@ uint64_t number_of(const char *option, const char *text, uint64_t least, uint64_
 uint8_t page_of(const char *option, const char *text) {
     uint64_t value = 0;
     const char *rest = read_number(text, &value);
-    bool suffix = rest == text + 2 && text[0] == '0' && strcmp(rest, "h") == 0;
+    bool suffix = rest && rest == text + 2 && text[0] == '0' && strcmp(rest, "h") == 0;
     if (!rest || (*rest && !suffix) || (value != 7 && value != 8))
         die("%s '%s' is not a telemetry page: give 07h or 08h", option, text);
     return (uint8_t)value;
@@ -103,13 +104,13 @@ void areas_of(const char *option, const char *text, uint32_t areas[4]) {
     for (int i = 0; good && i < 4; i++) {
         uint64_t value = 0;
         at = read_number(at, &value);
-        good = at && value >= before && value <= (i < 3 ? 65535u : 1048576u) && *at == (i < 3 ? ',' : '\0');
+        good = at && value >= before && value <= (i < 3 ? LAST_OF_AREA_3 : LAST_OF_AREA_4) && *at == (i < 3 ? ',' : '\0');
         areas[i] = (uint32_t)value;
         before = value;
         if (good && i < 3)
             at++;
     }
     if (!good || (areas[3] && !areas[2]))
-        die("%s '%s' is not A1,A2,A3,A4 with A1 <= A2 <= A3 <= A4, A3 at most 65535, A4 at most 1048576, and A4 = 0 if A3 = 0", option,
-            text);
+        die("%s '%s' is not A1,A2,A3,A4 with A1 <= A2 <= A3 <= A4, A3 at most %d, A4 at most %d, and A4 = 0 if A3 = 0", option, text,
+            LAST_OF_AREA_3, LAST_OF_AREA_4);
 }

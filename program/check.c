@@ -3,6 +3,7 @@
 
 #include "arguments.h"
 #include "bumbazeel.h"
+#include "numbers.h"
 #include "say.h"
 
 #include <errno.h>
@@ -13,18 +14,18 @@
 #include <sys/stat.h>
 #include <unistd.h>
 
-enum { BLOCK = 512, REASON = 128, ROW = 16 };
-static const uint64_t LONGEST = 512u * (1u + 1048576u); /* a header and the largest area 4 */
+enum { ROW = 16 }; /* bytes of the reason in a line */
+static const uint64_t LONGEST = BLOCK * (1 + (uint64_t)LAST_OF_AREA_4); /* a header and the largest area 4 */
 
-static const char help[] =
-    "usage: bumbazeel check [OPTIONS] FILE\n"
-    "\n"
-    "Shows the header of a saved telemetry page, the first 512 bytes of FILE, and which areas the file holds whole.\n"
-    "\n"
-    "  --page 07h|08h  the page it must be (by default the one that its first byte names)\n"
-    "  --area4         the drive has area 4 (DA4S 1)\n"
-    "  --no-area4      the drive has none (by default whichever of the two makes the header good)\n"
-    "  --json          print one JSON object\n";
+static const char help[] = "usage: bumbazeel check [OPTIONS] FILE\n"
+                           "\n"
+                           "Shows the header of a saved telemetry page, the first 512 bytes of FILE, and\n"
+                           "which areas the file holds whole.\n"
+                           "\n"
+                           "  --page 07h|08h  the page it must be (by default as its first byte says)\n"
+                           "  --area4         the drive has area 4 (DA4S 1)\n"
+                           "  --no-area4      the drive has none (by default whichever makes it good)\n"
+                           "  --json          print one JSON object\n";
 
 struct options {
     const char *file;
@@ -180,23 +181,21 @@ static void print_table(const struct finding *f, const struct saved *saved) {
     print_length(f, saved);
 }
 
-static const char *flag(bool value) { return value ? "true" : "false"; }
-
 static void print_json(const struct finding *f, const struct saved *saved) {
     const struct bumbazeel_fields *h = &f->fields;
     printf("{\"answer\": %u, \"meaning\": \"%s\"", f->answer, meaning(f->answer));
     if (f->answer == BUMBAZEEL_SUCCESS) {
         printf(", \"page\": \"%02Xh\", \"oui\": \"%06X\", \"scope\": %u, \"scope_name\": \"%s\", \"da4s\": %s", h->page, (unsigned)h->oui,
-               h->scope, scope_name(h->scope), flag(f->da4s));
+               h->scope, scope_name(h->scope), json_flag(f->da4s));
         printf(", \"last_blocks\": [%u, %u, %u, %u]", (unsigned)h->last[0], (unsigned)h->last[1], (unsigned)h->last[2],
                (unsigned)h->last[3]);
         if (h->page == 7)
             printf(", \"host_generation\": %u", h->host_generation);
-        printf(", \"controller_generation\": %u, \"available\": %s, \"reason\": \"", h->controller_generation, flag(h->available));
+        printf(", \"controller_generation\": %u, \"available\": %s, \"reason\": \"", h->controller_generation, json_flag(h->available));
         for (size_t i = 0; i < REASON; i++)
             printf("%02X", h->reason[i]);
         printf("\", \"file_bytes\": %llu, \"areas_whole\": %u, \"length_fits\": %s", (unsigned long long)saved->bytes, f->whole,
-               flag(f->fits));
+               json_flag(f->fits));
     }
     printf("}\n");
 }

@@ -3,6 +3,7 @@
 
 #include "arguments.h"
 #include "drive.h"
+#include "numbers.h"
 #include "output.h"
 #include "run.h"
 #include "say.h"
@@ -11,40 +12,43 @@
 #include <stdio.h>
 #include <stdlib.h>
 #include <string.h>
+#include <unistd.h>
 
-enum { BLOCK = 512 };
-static const size_t MOST_ROOM = 536870912, MOST_ROOM_OF_AREA_3 = 65535 * BLOCK;
 static const uint8_t EVERY_CAP = BUMBAZEEL_EXTENDED | BUMBAZEEL_TELEMETRY | BUMBAZEEL_DA4S | BUMBAZEEL_ETDAS | BUMBAZEEL_MCDAS;
 
-static const char help[] =
-    "usage: bumbazeel collect [OPTIONS] OUTPUT\n"
-    "\n"
-    "Collects a telemetry page from a drive and saves it in the file OUTPUT (- for standard output): the header, then the blocks of the\n"
-    "wanted area, all of one capture. OUTPUT is written whole or not at all.\n"
-    "\n"
-    "  --page 07h|08h        host-initiated (07h, the default) or controller-initiated (08h)\n"
-    "  --create              let the drive take a new capture first (07h)\n"
-    "  --area 1..4           the wanted area (3)\n"
-    "  --blocks N            blocks a command, 1 to 8192 (128)\n"
-    "  --attempts N          attempts if newer captures come in between, 1 to 256 (5)\n"
-    "  --room BYTES          the most that the area may take, a multiple of 512 (all that the area can have)\n"
-    "  --device PATH         collect from this drive, such as /dev/nvme0; without it, from the embedded drive\n"
-    "  --list                print the commands sent\n"
-    "  --json                print the outcome as one JSON object\n"
-    "  --quiet               say nothing of a success\n"
-    "\n"
-    "The embedded drive, to rehearse with:\n"
-    "  --seed N              what its captures hold is made from N (1)\n"
-    "  --drive-areas A1,A2,A3,A4   last blocks of its captures (8,24,64,128)\n"
-    "  --drive-no-area4      it has no area 4\n"
-    "  --drive-no-etdas      it has, but the host has not said yes to it\n"
-    "  --drive-no-mcda       it does not honour the greatest area wanted\n"
-    "  --drive-generation N  its generation at the start, 0 to 255 (1)\n"
-    "  --drive-empty         it holds no capture at the start\n"
-    "  --capture-before N[:A1,A2,A3,A4]  another capture comes right before the run's command N\n"
-    "  --clear-before N      another host acknowledges right before command N (08h)\n"
-    "  --refuse N            command N is refused, as by a broken drive\n"
-    "The last three may be given more than once and happen in their order.\n";
+static const char help[] = "usage: bumbazeel collect [OPTIONS] OUTPUT\n"
+                           "\n"
+                           "Collects a telemetry page from a drive and saves it in the file OUTPUT (- for\n"
+                           "standard output): the header, then the blocks of the wanted area, all of one\n"
+                           "capture. OUTPUT is written whole or not at all.\n"
+                           "\n"
+                           "  --page 07h|08h        host-initiated or controller-initiated (07h)\n"
+                           "  --create              let the drive take a new capture first (07h)\n"
+                           "  --area 1..4           the wanted area (3)\n"
+                           "  --blocks N            blocks a command, 1 to 8192 (128)\n"
+                           "  --attempts N          attempts if newer captures come, 1 to 256 (5)\n"
+                           "  --room BYTES          the most that the area may take, a multiple of 512\n"
+                           "                        (all that the area can have)\n"
+                           "  --device PATH         collect from this drive, such as /dev/nvme0, and not\n"
+                           "                        from the embedded one\n"
+                           "  --list                print the commands sent\n"
+                           "  --json                print the outcome as one JSON object\n"
+                           "  --quiet               say nothing of a plain success\n"
+                           "\n"
+                           "The embedded drive, to rehearse with:\n"
+                           "  --seed N              what its captures hold is made from N (1)\n"
+                           "  --drive-areas A1,A2,A3,A4\n"
+                           "                        last blocks of its captures (8,24,64,128)\n"
+                           "  --drive-no-area4      it has no area 4\n"
+                           "  --drive-no-etdas      it has, but the host has not said yes to it\n"
+                           "  --drive-no-mcda       it does not honour the greatest area wanted\n"
+                           "  --drive-generation N  its generation at the start, 0 to 255 (1)\n"
+                           "  --drive-empty         it holds no capture at the start\n"
+                           "  --capture-before N[:A1,A2,A3,A4]\n"
+                           "                        a capture comes right before the run's command N\n"
+                           "  --clear-before N      another host acknowledges before command N (08h)\n"
+                           "  --refuse N            command N is refused, as by a broken drive\n"
+                           "The last three may be given more than once and happen in their order.\n";
 
 struct options {
     struct wish wish;
@@ -113,9 +117,9 @@ static bool read_option(struct options *o, struct arguments *a) {
     else if (argument_value(a, "--area", &value))
         o->wish.area = (uint8_t)number_of("--area", value, 1, 4);
     else if (argument_value(a, "--blocks", &value))
-        o->wish.blocks = (uint32_t)number_of("--blocks", value, 1, 8192);
+        o->wish.blocks = (uint32_t)number_of("--blocks", value, 1, MOST_BLOCKS);
     else if (argument_value(a, "--attempts", &value))
-        o->wish.attempts = (uint32_t)number_of("--attempts", value, 1, 256);
+        o->wish.attempts = (uint32_t)number_of("--attempts", value, 1, MOST_ATTEMPTS);
     else if (argument_value(a, "--room", &value)) {
         o->wish.room = (size_t)number_of("--room", value, 0, MOST_ROOM);
         o->room_given = true;
@@ -159,8 +163,8 @@ static void judge_happening(const struct options *o, const struct happening *h) 
 /* What one option leaves to another. */
 static void complete(struct options *o) {
     if (!o->room_given)
-        o->wish.room = o->wish.area == 4 ? MOST_ROOM : MOST_ROOM_OF_AREA_3;
-    o->wish.progress = !o->quiet;
+        o->wish.room = o->wish.area == 4 ? MOST_ROOM : LAST_OF_AREA_3 * BLOCK;
+    o->wish.progress = !o->quiet && isatty(STDERR_FILENO);
     for (size_t i = 0; i < o->drive.count; i++) {
         struct happening *h = &o->drive.happenings[i];
         if (h->areas[3] == UINT32_MAX)
@@ -200,18 +204,16 @@ static struct drive *open_drive(struct options *o) {
     return drive;
 }
 
-static const char *flag(bool value) { return value ? "true" : "false"; }
-
 static void print_json(const struct options *o, const struct drive *drive, const struct outcome *outcome) {
     printf("{\"ending\": %u, \"meaning\": \"%s\", \"page\": \"%02Xh\", \"area\": %u, ", outcome->answer, meaning(outcome->answer),
            o->wish.page, o->wish.area);
     printf("\"attempts\": %u, \"failed_attempts\": %u, \"commands\": %llu, \"bytes\": %zu, \"newer_unread\": %s, ",
            (unsigned)outcome->attempts, (unsigned)outcome->failed, (unsigned long long)outcome->commands, outcome->bytes,
-           flag(outcome->newer));
-    printf("\"sizes_differ\": %s, \"refusal_status\": \"%04Xh\", ", flag(outcome->other), drive->refusal);
+           json_flag(outcome->newer));
+    printf("\"sizes_differ\": %s, \"refusal_status\": \"%04Xh\", ", json_flag(outcome->other), drive->refusal);
     printf("\"drive\": {\"oui\": \"%06X\", \"extended_data\": %s, \"telemetry\": %s, \"da4s\": %s, \"etdas\": %s, \"mcdas\": %s}}\n",
-           (unsigned)drive->oui, flag(drive->caps & BUMBAZEEL_EXTENDED), flag(drive->caps & BUMBAZEEL_TELEMETRY),
-           flag(drive->caps & BUMBAZEEL_DA4S), flag(drive->caps & BUMBAZEEL_ETDAS), flag(drive->caps & BUMBAZEEL_MCDAS));
+           (unsigned)drive->oui, json_flag(drive->caps & BUMBAZEEL_EXTENDED), json_flag(drive->caps & BUMBAZEEL_TELEMETRY),
+           json_flag(drive->caps & BUMBAZEEL_DA4S), json_flag(drive->caps & BUMBAZEEL_ETDAS), json_flag(drive->caps & BUMBAZEEL_MCDAS));
 }
 
 static const char *plural(uint64_t count) { return count == 1 ? "" : "s"; }
@@ -242,7 +244,7 @@ int collect_command(char **words) {
     struct outcome outcome = run(drive, &o.wish);
     if (o.json)
         print_json(&o, drive, &outcome);
-    close_stdout(outcome.answer == BUMBAZEEL_SUCCESS ? " (OUTPUT is saved and whole)" : "");
+    close_stdout(outcome.answer == BUMBAZEEL_SUCCESS ? " (OUTPUT is saved and whole)" : " (nothing was saved)");
     if (!o.quiet || outcome.answer != BUMBAZEEL_SUCCESS || outcome.other || outcome.newer)
         tell(&outcome, drive, o.output);
     free(o.drive.happenings);

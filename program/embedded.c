@@ -5,12 +5,13 @@
 #include "drive.h"
 
 #include "lazy.h"
+#include "numbers.h"
 #include "say.h"
 
 #include <stdio.h>
 #include <string.h>
 
-enum { BLOCK = 512, REASON = 128, PAGE_07 = 7, PAGE_08 = 8, SCOPE_CONTROLLER = 1 };
+enum { PAGE_07 = 7, PAGE_08 = 8, SCOPE_CONTROLLER = 1 };
 static const uint32_t CREATE_BIT = 1u << 8;
 static const uint16_t INTERNAL_ERROR = 0x0006; /* the generic status of a drive that cannot say more */
 static const uint32_t OUI = 0x02425A; /* a locally administered one: nobody's */

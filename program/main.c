@@ -8,15 +8,17 @@
 #include <string.h>
 #include <unistd.h>
 
-static const char help[] =
-    "usage: bumbazeel COMMAND [OPTIONS]\n"
-    "\n"
-    "  collect   collect a telemetry page, 07h or 08h, from a drive into a file\n"
-    "  check     show what the header of a saved page says, and whether the file is whole\n"
-    "  words     print the words of a Get Log Page\n"
-    "\n"
-    "bumbazeel COMMAND --help tells a command's options, bumbazeel --version the version.\n"
-    "Exit status: 0 success; 1 a collection that ended otherwise, or a file that is not as its header says; 2 bad use or other trouble.\n";
+static const char help[] = "usage: bumbazeel COMMAND [OPTIONS]\n"
+                           "\n"
+                           "  collect   collect a telemetry page, 07h or 08h, from a drive into a file\n"
+                           "  check     show the header of a saved page, and whether the file is whole\n"
+                           "  words     print the words of a Get Log Page\n"
+                           "\n"
+                           "bumbazeel COMMAND --help tells a command's options.\n"
+                           "bumbazeel --version tells the version.\n"
+                           "\n"
+                           "Exit status: 0 success; 1 a collection that ended otherwise, or a file that is\n"
+                           "not as its header says; 2 bad use or other trouble.\n";
 
 /* A closed standard stream would lend its number to the next file that is opened, and what is printed would go there. */
 static void fill_standard_streams(void) {

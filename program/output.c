@@ -103,10 +103,13 @@ static mode_t usual_mode(void) {
     return 0666 & ~mask;
 }
 
-void output_save(const uint8_t header[512], const uint8_t *blocks, size_t bytes) {
-    write_all(header, 512);
+void output_save(const uint8_t header[BLOCK], const uint8_t *blocks, size_t bytes) {
+    write_all(header, BLOCK);
     write_all(blocks, bytes);
-    bool kept = !output_waits() || (fchmod(output.file, usual_mode()) == 0 && fsync(output.file) == 0 && close(output.file) == 0);
+    if (!output_waits())
+        return;
+    (void)fchmod(output.file, usual_mode()); /* a file system without modes has its own */
+    bool kept = fsync(output.file) == 0 && close(output.file) == 0;
     int reason = errno;
     stop_here();
     if (!kept)

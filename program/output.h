@@ -2,6 +2,8 @@
 #ifndef OUTPUT_H
 #define OUTPUT_H
 
+#include "numbers.h"
+
 #include <stdbool.h>
 #include <stddef.h>
 #include <stdint.h>
@@ -14,7 +16,7 @@ void output_open(const char *name);
 bool output_waits(void);
 
 /* Writes header and blocks, down to the disk. Dies if they cannot be written. */
-void output_save(const uint8_t header[512], const uint8_t *blocks, size_t bytes);
+void output_save(const uint8_t header[BLOCK], const uint8_t *blocks, size_t bytes);
 
 /* Gives the file its name, over an older one. */
 void output_name(void);

@@ -1,10 +1,11 @@
 /* One line that is written over: a bar, the attempt, its bytes and the rate. */
 #include "progress.h"
 
+#include "numbers.h"
+
 #include <stdbool.h>
 #include <stdio.h>
 #include <time.h>
-#include <unistd.h>
 
 enum { WIDTH = 24 };
 static const double MIB = 1048576.0;
@@ -18,7 +19,7 @@ static double now(void) {
 }
 
 static void draw(const struct bumbazeel_state *state, double rate) {
-    double done = (state->at - 1) * 512.0, all = state->last[state->area - 1] * 512.0;
+    double done = (double)(state->at - 1) * BLOCK, all = (double)state->last[state->area - 1] * BLOCK;
     int filled = (int)(WIDTH * done / all);
     fprintf(stderr, "\r[%.*s%.*s] attempt %u of %u: %.1f of %.1f MiB, %.1f MiB/s\033[K", filled, "########################",
             WIDTH - filled, "........................", (unsigned)state->attempt, (unsigned)state->attempts, done / MIB, all / MIB,
@@ -28,7 +29,7 @@ static void draw(const struct bumbazeel_state *state, double rate) {
 
 void progress_show(const struct bumbazeel_state *state, uint64_t moved) {
     static double start, last;
-    if (!state->at || !isatty(STDERR_FILENO))
+    if (!state->at)
         return; /* no chunk is awaited */
     double time = now();
     if (start == 0)

@@ -1,4 +1,4 @@
-/* A collection's progress, on standard error and only if that is a terminal. */
+/* A collection's progress, on standard error, which is a terminal. */
 #ifndef PROGRESS_H
 #define PROGRESS_H
 

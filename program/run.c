@@ -3,6 +3,7 @@
 
 #include "bumbazeel.h"
 #include "lazy.h"
+#include "numbers.h"
 #include "output.h"
 #include "progress.h"
 #include "say.h"
@@ -11,7 +12,6 @@
 #include <stdio.h>
 #include <string.h>
 
-enum { BLOCK = 512 };
 enum { AWAITS_CHUNK = 1, AWAITS_CLOSING_HEADER = 2, AWAITS_ACKNOWLEDGEMENT = 4 }; /* phases of a state */
 
 /* A run under way: `closing` is the latest closing header and `bytes` are those of its attempt's area. With success they are those of the

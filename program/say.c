@@ -58,6 +58,8 @@ const char *meaning(uint8_t answer) {
     return answer < sizeof meanings / sizeof *meanings ? meanings[answer] : "unknown answer";
 }
 
+const char *json_flag(bool value) { return value ? "true" : "false"; }
+
 void close_stdout(const char *aside) {
     int lost = ferror(stdout); /* an earlier line; its reason is gone */
     errno = 0;

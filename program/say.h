@@ -2,6 +2,7 @@
 #ifndef SAY_H
 #define SAY_H
 
+#include <stdbool.h>
 #include <stdint.h>
 
 /* An exit status: success, a collection or a file that is not as it should be, and everything else. */
@@ -15,6 +16,9 @@ void say(const char *format, ...) __attribute__((format(printf, 1, 2)));
 
 /* The meaning of an answer number, in document 01's words; none has a quotation mark or a backslash, so that JSON takes it as it is. */
 const char *meaning(uint8_t answer);
+
+/* A yes or no as JSON writes it. */
+const char *json_flag(bool value);
 
 /* Ends the program's output: dies, with `aside` after the reason, if not all of standard output could be written. */
 void close_stdout(const char *aside);

@@ -3,22 +3,23 @@
 
 #include "arguments.h"
 #include "bumbazeel.h"
+#include "numbers.h"
 #include "say.h"
 
 #include <stdio.h>
 #include <stdlib.h>
 
-static const char help[] =
-    "usage: bumbazeel words --page 07h|08h --offset BLOCKS --blocks N [OPTIONS]\n"
-    "\n"
-    "Prints the words of a Get Log Page, CDW10 to CDW14. Offset and length count blocks of 512 bytes, the header being block 0.\n"
-    "\n"
-    "  --page 07h|08h   the page\n"
-    "  --offset BLOCKS  0 to 1048576\n"
-    "  --blocks N       1 to 8192\n"
-    "  --create         take a new capture first (07h)\n"
-    "  --mcda N         the greatest area wanted, 1 to 4 with --create; 0 leaves it to the drive (0)\n"
-    "  --rae 0|1        retain the event, 0 acknowledges 08h (1)\n";
+static const char help[] = "usage: bumbazeel words --page 07h|08h --offset BLOCKS --blocks N [OPTIONS]\n"
+                           "\n"
+                           "Prints the words of a Get Log Page, CDW10 to CDW14. Offset and length count\n"
+                           "blocks of 512 bytes; the header is block 0.\n"
+                           "\n"
+                           "  --page 07h|08h   the page\n"
+                           "  --offset BLOCKS  0 to 1048576\n"
+                           "  --blocks N       1 to 8192\n"
+                           "  --create         take a new capture first (07h)\n"
+                           "  --mcda N         the greatest area wanted, 1 to 4 with --create (0, any)\n"
+                           "  --rae 0|1        retain the event; 0 acknowledges 08h (1)\n";
 
 struct options {
     uint8_t page, create, mcda, rae;
@@ -69,8 +70,8 @@ int words_command(char **words) {
     uint32_t five[5];
     uint8_t answer = bumbazeel_words(o.page, o.create, o.mcda, o.rae, o.offset, o.blocks, five);
     if (answer)
-        die("refused: %u (%s): create is for 07h, MCDA 0 to 4 and 0 without create, 1 to 8192 blocks, offset at most 1048576", answer,
-            meaning(answer));
+        die("refused: %u (%s): create is for 07h, MCDA 0 to 4 and 0 without create, 1 to %d blocks, offset at most %d", answer,
+            meaning(answer), MOST_BLOCKS, LAST_OF_AREA_4);
     printf("%08X %08X %08X %08X %08X\n", (unsigned)five[0], (unsigned)five[1], (unsigned)five[2], (unsigned)five[3], (unsigned)five[4]);
     close_stdout("");
     return STATUS_SUCCESS;
