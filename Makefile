@@ -4,7 +4,7 @@
 # make sanitize  runs the program's tests with the address and undefined-behaviour sanitizers
 # make demo      shows a collection that a capture interrupts
 # make bench     measures serving against memcpy, as ratios in one run
-# make clean     removes what make built
+# make clean     removes build/; what rt has proved stays in target/
 VERSION := 0.1.0
 SONAME := libbumbazeel.so.0
 PREFIX ?= /usr/local

@@ -164,7 +164,8 @@ static void judge_happening(const struct options *o, const struct happening *h) 
 static void complete(struct options *o) {
     if (!o->room_given)
         o->wish.room = o->wish.area == 4 ? MOST_ROOM : LAST_OF_AREA_3 * BLOCK;
-    o->wish.progress = !o->quiet && isatty(STDERR_FILENO);
+    bool listing_in_view = o->wish.list && isatty(STDOUT_FILENO); /* it shows the progress, line by line */
+    o->wish.progress = !o->quiet && !listing_in_view && isatty(STDERR_FILENO);
     for (size_t i = 0; i < o->drive.count; i++) {
         struct happening *h = &o->drive.happenings[i];
         if (h->areas[3] == UINT32_MAX)
