@@ -152,17 +152,22 @@ static void print_reason(const uint8_t reason[REASON]) {
 static void print_length(const struct finding *f, const struct saved *saved) {
     printf("%-24s", "file");
     if (saved->bytes > LONGEST)
-        printf("longer than any telemetry page: ");
+        printf("longer than any telemetry page, ");
     else
-        printf("%llu bytes: ", (unsigned long long)saved->bytes);
-    if (f->fits)
-        printf("the header and area %u, to its last block\n", f->whole);
-    else if (f->whole == f->areas)
-        printf("does not fit: more than the header and area %u\n", f->whole);
-    else if (f->whole)
-        printf("does not fit: area %u is whole, area %u is not\n", f->whole, f->whole + 1);
+        printf("%llu bytes, ", (unsigned long long)saved->bytes);
+    printf(f->fits ? "fits: " : "does not fit: ");
+    if (f->whole == 0)
+        printf("no area");
+    else if (f->whole == 1)
+        printf("area 1");
     else
-        printf("does not fit: no area is whole\n");
+        printf("areas 1 to %u", f->whole);
+    printf(" whole");
+    if (!f->fits && f->whole == f->areas)
+        printf(", and more behind");
+    else if (!f->fits && f->whole)
+        printf(", area %u not", f->whole + 1);
+    putchar('\n');
 }
 
 static void print_table(const struct finding *f, const struct saved *saved) {
