@@ -51,6 +51,10 @@ build/bumbazeel: build/program/bumbazeel
 
 -include $(wildcard $(OBJECTS)/*.d)
 
+# a drive for the tests where there is none
+build/shim.so: tests/shim/shim.c include/bumbazeel.h build/libbumbazeel.a
+	$(CC) -std=c11 -O2 -Wall -Wextra -fPIC -shared -Iinclude -Wl,-z,noexecstack -o $@ tests/shim/shim.c build/libbumbazeel.a -ldl
+
 install: all
 	$(INSTALL) -d $(DESTDIR)$(BINDIR) $(DESTDIR)$(LIBDIR)/pkgconfig $(DESTDIR)$(INCLUDEDIR) $(DESTDIR)$(MANDIR)/man1
 	$(INSTALL) -m 755 build/bumbazeel $(DESTDIR)$(BINDIR)/bumbazeel

@@ -1,0 +1,226 @@
+/* A preloaded drive: stands between a program and Linux's admin passthrough, and answers the admin commands to one path from the proved
+ * controller. So the program, and the tools of the trade, can be tried on a drive where there is none.
+ *
+ *   BUMBAZEEL_SHIM=PATH         the device's path (it need not exist); without it nothing is answered here
+ *   BUMBAZEEL_SHIM_AREAS=A,B,C,D   last blocks of the four areas (default 2,3,5,9)
+ *   BUMBAZEEL_SHIM_MDTS=N       the drive's MDTS (default 5: 128 KiB)
+ *   BUMBAZEEL_SHIM_ETDAS=0      the host has said no to area 4 (default 1)
+ *   BUMBAZEEL_SHIM_CAPTURE=N    a capture of the page asked for comes right before the N-th Get Log Page
+ *   BUMBAZEEL_SHIM_GONE=N       the drive is gone from the N-th Get Log Page on
+ *   BUMBAZEEL_SHIM_LOG=FILE     each Get Log Page's five words and answer, a line each
+ *
+ * 08h has a capture from the start; 07h is empty until a create, whose contents do not depend on who sends it. */
+#define _GNU_SOURCE
+#include "bumbazeel.h"
+
+#include <dlfcn.h>
+#include <errno.h>
+#include <fcntl.h>
+#include <linux/nvme_ioctl.h>
+#include <stdarg.h>
+#include <stdbool.h>
+#include <stdio.h>
+#include <stdlib.h>
+#include <string.h>
+#include <sys/ioctl.h>
+#include <sys/stat.h>
+#include <sys/sysmacros.h>
+#include <unistd.h>
+
+enum { GET_LOG_PAGE = 0x02, IDENTIFY = 0x06, GET_FEATURES = 0x0A };
+enum { BLOCK = 512, REASON = 128, NVME_MAJOR = 243, INVALID_OPCODE = 0x0001, INVALID_FIELD = 0x0002 };
+static const uint32_t OUI = 0x02425A;
+
+static struct {
+    bool ready;
+    int file;
+    struct bumbazeel_record record;
+    uint32_t last[4];
+    uint8_t *host, *controller, *candidate;
+    size_t bytes;
+    uint8_t reason[REASON];
+    unsigned captures;
+    long asked, capture_before, gone_from;
+} drive = {.file = -1};
+
+static long setting(const char *name, long otherwise) {
+    const char *text = getenv(name);
+    return text ? strtol(text, NULL, 0) : otherwise;
+}
+
+static void must(bool good, const char *what) {
+    if (good)
+        return;
+    fprintf(stderr, "shim: %s\n", what);
+    _exit(70);
+}
+
+/* The contents of a capture: every block of every capture differs. */
+static void next_candidate(void) {
+    unsigned n = ++drive.captures;
+    for (size_t i = 0; i < drive.bytes; i++)
+        drive.candidate[i] = (uint8_t)((i / BLOCK * 31 + i * 7 + n * 97) >> (i & 1));
+    memset(drive.reason, 0, REASON);
+    snprintf((char *)drive.reason, REASON, "shim capture %u", n);
+}
+
+static void take_08(void) {
+    next_candidate();
+    must(!bumbazeel_capture(&drive.record, drive.host, drive.bytes, drive.controller, drive.bytes, drive.last, drive.candidate, drive.bytes,
+                            drive.reason, REASON),
+         "the capture is refused");
+}
+
+static uint8_t command(const uint32_t words[5], uint8_t *buffer, size_t bytes) {
+    uint8_t identifier_class;
+    return bumbazeel_command(&drive.record, drive.host, drive.bytes, drive.controller, drive.bytes, drive.last, drive.candidate, drive.bytes,
+                             drive.reason, REASON, words, buffer, bytes, &identifier_class);
+}
+
+static void take_07(void) {
+    uint32_t words[5];
+    uint8_t header[BLOCK];
+    next_candidate();
+    must(!bumbazeel_words(7, 1, 0, 1, 0, 1, words) && !command(words, header, sizeof header), "the create is refused");
+}
+
+static void get_ready(void) {
+    const char *areas = getenv("BUMBAZEEL_SHIM_AREAS");
+    uint8_t caps = BUMBAZEEL_EXTENDED | BUMBAZEEL_TELEMETRY | BUMBAZEEL_DA4S;
+    must(sscanf(areas ? areas : "2,3,5,9", "%u,%u,%u,%u", &drive.last[0], &drive.last[1], &drive.last[2], &drive.last[3]) == 4,
+         "BUMBAZEEL_SHIM_AREAS wants four numbers");
+    if (setting("BUMBAZEEL_SHIM_ETDAS", 1))
+        caps |= BUMBAZEEL_ETDAS;
+    drive.bytes = (size_t)drive.last[3] * BLOCK;
+    drive.host = calloc(1, drive.bytes + 1);
+    drive.controller = calloc(1, drive.bytes + 1);
+    drive.candidate = calloc(1, drive.bytes + 1);
+    must(drive.host && drive.controller && drive.candidate, "out of memory");
+    must(!bumbazeel_fresh(caps, OUI, 1, 1, &drive.record), "the record is refused");
+    drive.capture_before = setting("BUMBAZEEL_SHIM_CAPTURE", 0);
+    drive.gone_from = setting("BUMBAZEEL_SHIM_GONE", 0);
+    take_08();
+    next_candidate(); /* for a create */
+    drive.ready = true;
+}
+
+static void log_command(const uint32_t words[5], unsigned status) {
+    const char *path = getenv("BUMBAZEEL_SHIM_LOG");
+    FILE *log = path ? fopen(path, "a") : NULL;
+    if (!log)
+        return;
+    fprintf(log, "%08X %08X %08X %08X %08X %04X\n", words[0], words[1], words[2], words[3], words[4], status);
+    fclose(log);
+}
+
+static int get_log_page(const uint32_t words[5], uint8_t *data, size_t bytes) {
+    drive.asked++;
+    if (drive.gone_from && drive.asked >= drive.gone_from) {
+        errno = ENODEV;
+        return -1;
+    }
+    if (drive.asked == drive.capture_before)
+        (words[0] & 0xFF) == 8 ? take_08() : take_07();
+    uint8_t answer = command(words, data, bytes);
+    uint16_t status = bumbazeel_status(answer);
+    must(status != 0xFFFF, "the controller is lent too little");
+    log_command(words, status);
+    return status;
+}
+
+static int identify(uint32_t what, uint8_t *data, size_t bytes) {
+    if (what != 1 || bytes < 4096)
+        return INVALID_FIELD;
+    memset(data, 0, bytes);
+    memcpy(data + 4, "SHIM0001            ", 20);
+    memcpy(data + 24, "Bumbazeel proved controller             ", 40);
+    memcpy(data + 64, "1.0     ", 8);
+    data[73] = OUI & 0xFF;
+    data[74] = OUI >> 8 & 0xFF;
+    data[75] = OUI >> 16;
+    data[77] = (uint8_t)setting("BUMBAZEEL_SHIM_MDTS", 5);
+    data[261] = 1 << 2 | 1 << 3 | 1 << 6;
+    return 0;
+}
+
+static int get_features(uint32_t what, uint8_t *data, size_t bytes) {
+    if (what != 0x16 || bytes < BLOCK)
+        return INVALID_FIELD;
+    memset(data, 0, bytes);
+    data[1] = drive.record.caps & BUMBAZEEL_ETDAS ? 1 : 0;
+    return 0;
+}
+
+static int admin(struct nvme_admin_cmd *c) {
+    uint8_t *data = (uint8_t *)(uintptr_t)c->addr;
+    const uint32_t words[5] = {c->cdw10, c->cdw11, c->cdw12, c->cdw13, c->cdw14};
+    switch (c->opcode) {
+    case GET_LOG_PAGE: return get_log_page(words, data, c->data_len);
+    case IDENTIFY: return identify(c->cdw10 & 0xFF, data, c->data_len);
+    case GET_FEATURES: return get_features(c->cdw10 & 0xFF, data, c->data_len);
+    default: return INVALID_OPCODE;
+    }
+}
+
+/* ---- what the program calls */
+
+static bool is_drive(const char *path) {
+    const char *here = getenv("BUMBAZEEL_SHIM");
+    return here && path && !strcmp(path, here);
+}
+
+static int open_drive(void) {
+    int (*real)(const char *, int, ...) = (int (*)(const char *, int, ...))(uintptr_t)dlsym(RTLD_NEXT, "open");
+    drive.file = real("/dev/null", O_RDONLY | O_CLOEXEC);
+    return drive.file;
+}
+
+#define OPENS(name)                                                                                                                        \
+    int name(const char *path, int flags, ...) {                                                                                          \
+        va_list rest;                                                                                                                      \
+        va_start(rest, flags);                                                                                                             \
+        mode_t mode = flags & (O_CREAT | O_TMPFILE) ? va_arg(rest, mode_t) : 0;                                                           \
+        va_end(rest);                                                                                                                      \
+        if (is_drive(path))                                                                                                                \
+            return open_drive();                                                                                                           \
+        return ((int (*)(const char *, int, ...))(uintptr_t)dlsym(RTLD_NEXT, #name))(path, flags, mode);                                  \
+    }
+OPENS(open)
+OPENS(open64)
+
+/* What a fortified build calls where it opens and does not create. */
+#define OPENS_ONLY(name)                                                                                                                   \
+    int name(const char *path, int flags);                                                                                                 \
+    int name(const char *path, int flags) {                                                                                                \
+        return is_drive(path) ? open_drive() : ((int (*)(const char *, int))(uintptr_t)dlsym(RTLD_NEXT, #name))(path, flags);             \
+    }
+OPENS_ONLY(__open_2)
+OPENS_ONLY(__open64_2)
+
+/* The drive is a character device to whoever looks. */
+#define STATS(name, type)                                                                                                                  \
+    int name(int file, struct type *found) {                                                                                              \
+        int status = ((int (*)(int, struct type *))(uintptr_t)dlsym(RTLD_NEXT, #name))(file, found);                                      \
+        if (!status && file >= 0 && file == drive.file) {                                                                                  \
+            found->st_mode = (found->st_mode & ~(mode_t)S_IFMT) | S_IFCHR;                                                                 \
+            found->st_rdev = makedev(NVME_MAJOR, 0);                                                                                       \
+        }                                                                                                                                  \
+        return status;                                                                                                                     \
+    }
+STATS(fstat, stat)
+STATS(fstat64, stat64)
+
+int ioctl(int file, unsigned long request, ...) {
+    va_list rest;
+    va_start(rest, request);
+    void *argument = va_arg(rest, void *);
+    va_end(rest);
+    if (file < 0 || file != drive.file)
+        return ((int (*)(int, unsigned long, ...))(uintptr_t)dlsym(RTLD_NEXT, "ioctl"))(file, request, argument);
+    if (!drive.ready)
+        get_ready();
+    if (request == NVME_IOCTL_ADMIN_CMD)
+        return admin(argument);
+    errno = ENOTTY;
+    return -1;
+}
