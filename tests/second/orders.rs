@@ -1,0 +1,306 @@
+//! Orders of refusals: inputs that break several rules at once. Which answer is due follows here from document 01's list alone, so these
+//! cases are a third opinion on the order.
+
+use crate::boundary::{put_u32, put_u64, Setup, SEND, STATE_BYTES};
+use crate::generate::{self, at, DA4S, ETDAS, EXTENDED, MCDAS, TELEMETRY};
+use crate::pair::{Difference, Offer, Pair, Same, World};
+use crate::random::Random;
+use crate::rules::*;
+use crate::singles;
+
+/// The first answer of an order whose rule is broken, or 0.
+fn first(order: &[(u8, bool)]) -> u8 {
+    order.iter().find(|(_, broken)| *broken).map_or(SUCCESS, |(answer, _)| *answer)
+}
+
+fn expect(what: &str, due: u8, given: u8) -> Same<()> {
+    if due == given {
+        return Ok(());
+    }
+    Err(Difference(format!("{what}: both answered {given}, but the first broken rule gives {due}")))
+}
+
+/// A command that nothing is wrong with, as its parts.
+struct Parts {
+    world: World,
+    offer: Offer,
+    page: u32,
+    create: bool,
+    mcda: u32,
+    count: u32,
+    offset: u64,
+    offset_type: bool,
+    buffer: usize,
+}
+
+impl Parts {
+    fn words(&self, retain: bool) -> Words {
+        let low = self.page | (self.create as u32) << 8 | self.mcda << 9 | (retain as u32) << 15;
+        let offset_type = (self.offset_type as u32) << 23;
+        [low | self.count << 16, self.count >> 16, self.offset as u32, (self.offset >> 32) as u32, offset_type]
+    }
+}
+
+/// On 08h create and MCDA are set too, since they count for nothing there.
+fn good_parts(random: &mut Random) -> Parts {
+    let caps = EXTENDED | TELEMETRY | MCDAS | random.pick(&[0, DA4S, ETDAS, DA4S | ETDAS]);
+    let mut world = generate::world(random, caps);
+    let host_page = random.chance(60);
+    let create = random.chance(70);
+    world.host_store = random.bytes(world.host_store.len() + 3 * BLOCK);
+    let a3 = 1 + random.up_to(2);
+    let offer =
+        Offer { last: [0, a3, a3, a3], bytes: random.bytes(a3 as usize * BLOCK), reason: random.bytes(REASON) };
+    let blocks = 1 + random.up_to(2);
+    Parts {
+        world,
+        offer,
+        page: if host_page { HOST_PAGE } else { CONTROLLER_PAGE } as u32,
+        create,
+        mcda: if create { random.up_to(4) } else { random.up_to(7) },
+        count: 128 * blocks - 1,
+        offset: 0,
+        offset_type: false,
+        buffer: blocks as usize * BLOCK + random.pick(&[0, 0, 1, 512]),
+    }
+}
+
+fn break_agreement(random: &mut Random, world: &mut World) {
+    match random.up_to(3) {
+        0 => world.record[at::HOST_SCOPE] = 0,
+        1 => world.record[at::CONTROLLER_SCOPE] = 3,
+        2 => world.record[at::AVAILABLE] = 2,
+        _ => put_u32(&mut world.record, at::OUI, 0x0100_0000),
+    }
+}
+
+fn break_page(random: &mut Random, parts: &mut Parts) {
+    if random.chance(50) {
+        parts.page = random.pick(&[0x00, 0x06, 0x09, 0x24, 0x82, 0xC7]);
+    } else {
+        parts.world.record[at::CAPS] &= !TELEMETRY;
+    }
+}
+
+/// One of the rules of the first 1.
+fn break_field(random: &mut Random, parts: &mut Parts) {
+    let creates = parts.page == HOST_PAGE as u32 && parts.create;
+    match random.up_to(4) {
+        0 => parts.offset_type = true,
+        1 => parts.count -= random.pick(&[1, 64, 127]),
+        2 => parts.offset += random.pick(&[1, 4, 256, 511]),
+        3 if creates => parts.mcda = 5 + random.up_to(2),
+        _ => {
+            parts.world.record[at::CAPS] &= !EXTENDED;
+            parts.offset = 512;
+        }
+    }
+}
+
+/// 4; 2; 1; 5; 1; 3.
+pub fn commands(pair: &mut Pair, random: &mut Random) -> Same<()> {
+    let mut parts = good_parts(random);
+    let [disagree, page, field, broken, beyond, short] = [(); 6].map(|()| random.chance(30));
+    let creates = parts.create && parts.page == HOST_PAGE as u32;
+    if beyond {
+        parts.offset = random.pick(&[512 * 2_000, 1 << 32, u64::MAX - 511]);
+    }
+    if field {
+        break_field(random, &mut parts);
+    }
+    if broken {
+        parts.offer.reason.truncate(127);
+    }
+    if short {
+        parts.buffer = random.pick(&[0, 511, 512 * (parts.count as usize / 128 + 1) - 1]).min(4 * parts.count as usize + 3);
+    }
+    if page {
+        break_page(random, &mut parts);
+    }
+    if disagree {
+        break_agreement(random, &mut parts.world);
+    }
+    let due = first(&[
+        (DISAGREE, disagree),
+        (INVALID_LOG_PAGE, page),
+        (INVALID_FIELD, field),
+        (BROKEN_CANDIDATE, broken && creates),
+        (INVALID_FIELD, beyond),
+        (SHORT_BUFFER, short),
+    ]);
+    let words = parts.words(random.chance(50));
+    let mut buffer = random.bytes(parts.buffer);
+    let (given, _) = pair.command(&mut parts.world, &parts.offer, words, &mut buffer)?;
+    expect("order of a command", due, given)
+}
+
+/// For a capture: 4, 5.
+pub fn captures(pair: &mut Pair, random: &mut Random) -> Same<()> {
+    let Parts { mut world, mut offer, .. } = good_parts(random);
+    world.controller_store.extend([1; 3 * BLOCK]);
+    let [disagree, broken] = [(); 2].map(|()| random.chance(40));
+    if broken && random.chance(50) {
+        // Whole on 07h: only 08h asks for an area 3.
+        offer = Offer { last: [0; 4], bytes: Vec::new(), reason: offer.reason };
+    } else if broken {
+        generate::break_offer(random, &mut offer);
+    }
+    if disagree {
+        break_agreement(random, &mut world);
+    }
+    let given = pair.capture(&mut world, &offer)?;
+    expect("order of a capture", first(&[(DISAGREE, disagree), (BROKEN_CANDIDATE, broken)]), given)
+}
+
+/// 13 before 6.
+pub fn setups(pair: &mut Pair, random: &mut Random) -> Same<()> {
+    let mut setup = singles::good_setup(random);
+    let [bad, no_area_4] = [(); 2].map(|()| random.chance(50));
+    if no_area_4 {
+        setup.area = 4;
+        setup.caps &= !random.pick(&[DA4S, ETDAS, DA4S | ETDAS]);
+    }
+    if bad {
+        match random.up_to(7) {
+            0 => setup.page = random.pick(&[6, 9]),
+            1 => (setup.page, setup.create) = (CONTROLLER_PAGE, 1),
+            2 => setup.chunk = random.pick(&[0, 8_193]),
+            3 => setup.attempts = random.pick(&[0, 257]),
+            4 => setup.room = random.pick(&[1, 513, 536_871_424]),
+            5 => setup.caps &= !EXTENDED,
+            6 => setup.caps &= !TELEMETRY,
+            _ => setup.area = random.pick(&[0, 5]),
+        }
+    }
+    let (_, next) = pair.setup(setup)?;
+    expect("order of a setup", first(&[(BAD_SETUP, bad), (NO_AREA_4, no_area_4)]), next[1])
+}
+
+/// A state that awaits a header, made by hand.
+pub fn header_state(setup: Setup, phase: u8, attempt: u32, generation: u8, last: LastBlocks) -> [u8; STATE_BYTES] {
+    let mut state = [0; STATE_BYTES];
+    state[0] = phase;
+    state[1] = setup.page;
+    state[2] = (setup.create != 0) as u8;
+    state[3] = setup.area;
+    state[4] = setup.caps;
+    state[5] = generation;
+    put_u32(&mut state, 8, setup.chunk);
+    put_u32(&mut state, 12, setup.attempts);
+    put_u32(&mut state, 16, attempt);
+    put_u64(&mut state, 24, setup.room);
+    put_u64(&mut state, 32, 3);
+    generate::put_last(&mut state, 40, last);
+    state
+}
+
+/// A plan whose copy has `blocks` blocks.
+pub fn small_setup(random: &mut Random, blocks: u64) -> Setup {
+    let setup = singles::good_setup(random);
+    Setup { room: 512 * blocks, chunk: random.pick(&[1, 2, 3, 5, 8_192]), ..setup }
+}
+
+/// 14, 13, 15.
+pub fn steps(pair: &mut Pair, random: &mut Random) -> Same<()> {
+    let setup = small_setup(random, 4);
+    let [ended, bad, unfit] = [(); 3].map(|()| random.chance(50));
+    let mut state = header_state(setup, random.pick(&[0, 2, 3, 4]), setup.attempts, 9, [0, 1, 2, 3]);
+    let mut data = generate::header(random, setup.page, [1, 1, 2, 0]);
+    let mut copy = random.bytes(4 * BLOCK);
+    if bad {
+        match random.up_to(5) {
+            0 => state[1] = 9,
+            1 => state[3] = random.pick(&[0, 5]),
+            2 => put_u32(&mut state, 16, random.pick(&[0, setup.attempts + 1])),
+            3 => put_u64(&mut state, 32, 3 + setup.attempts as u64 * 1_048_577),
+            4 => generate::put_last(&mut state, 40, [5; 4]),
+            _ => put_u32(&mut state, 8, 0),
+        }
+    }
+    if unfit {
+        match random.up_to(2) {
+            0 => data.truncate(random.pick(&[0, 511])),
+            1 => copy.truncate(random.pick(&[0, 512, 2_047])),
+            _ => copy.extend([1; BLOCK]),
+        }
+    }
+    if ended {
+        state[0] = 5;
+    }
+    let due = first(&[(ALREADY_ENDED, ended), (BAD_SETUP, bad), (DOES_NOT_FIT, unfit)]);
+    let next = pair.step(&mut state, 1, &data, &mut copy)?;
+    let refusals = [ALREADY_ENDED, BAD_SETUP, DOES_NOT_FIT];
+    let given = if refusals.contains(&next[1]) { next[1] } else { SUCCESS };
+    expect("order of a step", due, given)
+}
+
+/// Breaks a header in a way that leaves TCDA, generation and the wanted area.
+fn break_header(random: &mut Random, page: u8, header: &mut [u8]) {
+    match random.up_to(2) {
+        0 => header[0] = random.pick(&[0, 9, 15 - page]),
+        1 => header[if page == HOST_PAGE { 380 } else { 381 }] |= random.pick(&[4, 128]),
+        _ => header[16..20].copy_from_slice(&1_048_577u32.to_le_bytes()),
+    }
+}
+
+/// A good header of `blocks` blocks in every area, with data available.
+fn plain_header(random: &mut Random, setup: Setup, blocks: u32, generation: u8) -> Vec<u8> {
+    let fourth = if setup.caps & DA4S != 0 { blocks } else { 0 };
+    let mut header = generate::header(random, setup.page, [blocks, blocks, blocks, fourth]);
+    header[382] = 1;
+    header[if setup.page == HOST_PAGE { 381 } else { 383 }] = generation;
+    header
+}
+
+/// At a first header: 7, 11, 8.
+pub fn first_headers(pair: &mut Pair, random: &mut Random) -> Same<()> {
+    let setup = small_setup(random, 4);
+    let [bad, nothing, large] = [(); 3].map(|()| random.chance(50));
+    let mut state = header_state(setup, 0, 1, 0, [0; 4]);
+    let blocks = if large { 5 + random.up_to(300) } else { 1 + random.up_to(3) };
+    let generation = random.byte();
+    let mut header = plain_header(random, setup, blocks, generation);
+    if nothing {
+        header[382] = 0;
+    }
+    if bad {
+        break_header(random, setup.page, &mut header);
+    }
+    let mut copy = random.bytes(4 * BLOCK);
+    let next = pair.step(&mut state, 1, &header, &mut copy)?;
+    let nothing = nothing && setup.page == CONTROLLER_PAGE;
+    let due = first(&[(BAD_HEADER, bad), (NOTHING, nothing), (NO_ROOM, large)]);
+    expect("order at a first header", due, next[1])
+}
+
+/// At a later header: 7, 10, then on mismatch 9, else 8; on a match after a refused chunk 12.
+pub fn later_headers(pair: &mut Pair, random: &mut Random) -> Same<()> {
+    let mut setup = small_setup(random, 4);
+    setup.attempts = setup.attempts.max(2);
+    let [bad, withdrawn, mismatch, used_up, large] = [(); 5].map(|()| random.chance(50));
+    let phase = random.pick(&[2, 3]);
+    let attempt = if used_up { setup.attempts } else { 1 + random.up_to(setup.attempts - 2) };
+    let generation = random.byte();
+    let mut state = header_state(setup, phase, attempt, generation, [1, 2, 3, 4]);
+    let blocks = if large { 5 + random.up_to(300) } else { 1 + random.up_to(3) };
+    let shown = generation.wrapping_add(mismatch as u8 * random.pick(&[1, 255, 128]));
+    let mut header = plain_header(random, setup, blocks, shown);
+    if withdrawn {
+        header[382] = 0;
+    }
+    if bad {
+        break_header(random, setup.page, &mut header);
+    }
+    let mut copy = random.bytes(4 * BLOCK);
+    let next = pair.step(&mut state, 1, &header, &mut copy)?;
+    let due = first(&[
+        (BAD_HEADER, bad),
+        (WITHDRAWN, withdrawn && setup.page == CONTROLLER_PAGE),
+        (BROKE_ITS_WORD, !mismatch && phase == 3),
+        (ATTEMPTS_USED_UP, mismatch && used_up),
+        (NO_ROOM, mismatch && large),
+    ]);
+    expect("order at a later header", due, next[1])?;
+    let goes_on = due == SUCCESS && (mismatch || setup.page == CONTROLLER_PAGE);
+    expect("whether a later header is followed by a command", goes_on as u8, (next[0] == SEND) as u8)
+}

@@ -1,0 +1,518 @@
+//! Vectors from outside: the rows and the listing of document 01, and tables of documents 000 to 004, typed in from there. Each check
+//! holds the pair to the table, so it is an opinion that neither the library nor the second opinion had a hand in.
+
+use crate::boundary::{get_u32, get_u64, Setup, ENDED, RECORD_BYTES, SEND};
+use crate::generate::{self, asked_bytes, at, DA4S, ETDAS, EXTENDED, MCDAS, TELEMETRY};
+use crate::pair::{hex, Difference, Offer, Pair, Same, World};
+use crate::random::Random;
+use crate::rules::{LastBlocks, Words, BLOCK, REASON};
+use crate::runs::words_of;
+
+const ALL: u8 = EXTENDED | TELEMETRY | DA4S | ETDAS | MCDAS;
+
+fn hold(holds: bool, row: &str) -> Same<()> {
+    if holds {
+        return Ok(());
+    }
+    Err(Difference(format!("both agree, but not with the row: {row}")))
+}
+
+/// A drive with a host page, whose stores hold blocks that each begin with their number.
+fn drive(caps: u8, host_last: LastBlocks) -> World {
+    let mut record = [0; RECORD_BYTES];
+    record[at::CAPS] = caps;
+    record[at::HOST_SCOPE] = 1;
+    record[at::CONTROLLER_SCOPE] = 2;
+    generate::put_last(&mut record, at::HOST_LAST, host_last);
+    World { record, host_store: numbered(12, 0x00), controller_store: numbered(12, 0x80) }
+}
+
+/// `blocks` blocks of which each byte is the block's number plus `base`.
+fn numbered(blocks: u8, base: u8) -> Vec<u8> {
+    (1..=blocks).flat_map(|block| [block + base; BLOCK]).collect()
+}
+
+fn candidate(last: LastBlocks) -> Offer {
+    Offer { last, bytes: numbered(last[3] as u8, 0x40), reason: vec![0x5C; REASON] }
+}
+
+/// Reads `bytes` bytes of page 07h or 08h with RAE 1: the answer and what came.
+fn read(pair: &mut Pair, world: &mut World, page: u32, offset: u32, bytes: u32) -> Same<(u8, Vec<u8>)> {
+    let mut buffer = vec![0xDD; bytes as usize];
+    let words = [page | 0x8000 | (bytes / 4 - 1) << 16, 0, offset, 0, 0];
+    let (answer, _) = pair.command(world, &candidate([0; 4]), words, &mut buffer)?;
+    Ok((answer, buffer))
+}
+
+/// Document 01, "Rows on each side": the host page (2,2,5,0) with DA4S 0 and extended data on, size 3,072.
+pub fn page_rows(pair: &mut Pair, _: &mut Random) -> Same<()> {
+    let mut world = drive(EXTENDED | TELEMETRY, [2, 2, 5, 0]);
+    let (answer, bytes) = read(pair, &mut world, 7, 3_072, 512)?;
+    hold(answer == 0 && bytes == [0; 512], "offset 3,072, 512 bytes: zeros")?;
+    hold(read(pair, &mut world, 7, 3_584, 512)?.0 == 1, "offset 3,584: 1")?;
+    hold(read(pair, &mut world, 7, 256, 512)?.0 == 1, "offset 256: 1")?;
+    let (answer, bytes) = read(pair, &mut world, 7, 2_560, 1_024)?;
+    let due = [[5; 512], [0; 512]].concat();
+    hold(answer == 0 && bytes == due, "offset 2,560, 1,024 bytes: block 5, then zeros")?;
+    hold(read(pair, &mut world, 7, 0, 127 * 4)?.0 == 1, "count 126: 1")?;
+    world.record[at::HOST_GENERATION] = 255;
+    let mut buffer = vec![0; 512];
+    let (answer, _) = pair.command(&mut world, &candidate([1, 1, 1, 1]), [0x007F_8107, 0, 0, 0, 0], &mut buffer)?;
+    hold(answer == 0 && world.record[at::HOST_GENERATION] == 0 && buffer[381] == 0, "generation 255, one capture: 0")
+}
+
+/// Document 01, "Rows on each side": what is stored of the candidate (2,2,5,9).
+pub fn trimming_rows(pair: &mut Pair, _: &mut Random) -> Same<()> {
+    let rows: [(&str, u8, u32, Option<LastBlocks>); 4] = [
+        ("MCDA 2 stores (2,2,2,2)", ALL, 2, Some([2, 2, 2, 2])),
+        ("MCDA 0 stores (2,2,5,9)", ALL, 0, Some([2, 2, 5, 9])),
+        ("MCDA 5: 1", ALL, 5, None),
+        ("DA4S 0, MCDA 0: (2,2,5,0)", ALL & !DA4S, 0, Some([2, 2, 5, 0])),
+    ];
+    for (row, caps, mcda, stored) in rows {
+        let mut world = drive(caps, [0; 4]);
+        let before = world.clone();
+        let words = [0x007F_8107 | mcda << 9, 0, 0, 0, 0];
+        let (answer, _) = pair.command(&mut world, &candidate([2, 2, 5, 9]), words, &mut vec![0; 512])?;
+        let last = generate::last_of(&world.record, at::HOST_LAST);
+        let due = stored.unwrap_or(generate::last_of(&before.record, at::HOST_LAST));
+        hold(answer == stored.is_none() as u8 && last == due, row)?;
+        let kept = due.into_iter().max().unwrap_or(0) as usize * BLOCK;
+        let store = [&numbered(9, 0x40)[..kept], &before.host_store[kept..]].concat();
+        hold(world.host_store == store, &format!("{row}, and as many blocks"))?;
+    }
+    Ok(())
+}
+
+/// A collection run to its end: the words of each command, the ending's number and count, and the copy. `between` happens after each
+/// command, with its number from 1.
+fn collect(
+    pair: &mut Pair,
+    world: &mut World,
+    setup: Setup,
+    mut between: impl FnMut(&mut Pair, &mut World, usize) -> Same<()>,
+) -> Same<(Vec<Words>, u8, u64, Vec<u8>)> {
+    let (mut state, mut next) = pair.setup(setup)?;
+    let mut copy = vec![0xDD; setup.room as usize];
+    let mut sent = Vec::new();
+    while next[0] == SEND && sent.len() < 50 {
+        let words = words_of(&next);
+        sent.push(words);
+        let mut buffer = vec![0; asked_bytes(setup.caps, words) as usize];
+        let (answer, _) = pair.command(world, &candidate([1, 2, 3, 4]), words, &mut buffer)?;
+        let data = if answer == 0 { &buffer[..] } else { &[] };
+        next = pair.step(&mut state, (answer == 0) as u8, data, &mut copy)?;
+        between(pair, world, sent.len())?;
+    }
+    hold(next[0] == ENDED, "a collection ends")?;
+    Ok((sent, next[1], get_u64(&next, 24), copy))
+}
+
+/// Document 01, "Whole listing, 08h, B = 7, c = 3, no capture".
+const LISTING: [Words; 6] = [
+    [0x007F8008, 0x00000000, 0x00000000, 0x00000000, 0x00000000],
+    [0x017F8008, 0x00000000, 0x00000200, 0x00000000, 0x00000000],
+    [0x017F8008, 0x00000000, 0x00000800, 0x00000000, 0x00000000],
+    [0x007F8008, 0x00000000, 0x00000E00, 0x00000000, 0x00000000],
+    [0x007F8008, 0x00000000, 0x00000000, 0x00000000, 0x00000000],
+    [0x007F0008, 0x00000000, 0x00000000, 0x00000000, 0x00000000],
+];
+
+/// Document 01, "Rows on each side": the rows of a collection, the whole listing, and the traps of "Easy to get wrong".
+pub fn collection_rows(pair: &mut Pair, _: &mut Random) -> Same<()> {
+    let setup = Setup { page: 8, create: 0, area: 3, caps: ALL, chunk: 3, attempts: 2, room: 9 * 512 };
+    let quiet = |_: &mut Pair, _: &mut World, _: usize| Ok(());
+    let mut world = drive(ALL, [0; 4]);
+    hold(pair.capture(&mut world, &candidate([1, 4, 7, 8]))? == 0, "a capture of B = 7")?;
+    let copied = [&numbered(7, 0x40)[..], &[0; 2 * BLOCK]].concat();
+    let ran = collect(pair, &mut world.clone(), setup, quiet)?;
+    hold(ran == (LISTING.to_vec(), 0, 6, copied.clone()), "whole listing, 08h, B = 7, c = 3, no capture")?;
+
+    let first = Setup { page: 7, create: 1, ..setup };
+    let ran = collect(pair, &mut drive(ALL, [0; 4]), first, quiet)?;
+    hold(ran.0[0] == [0x007F8707, 0, 0, 0, 0], "first word, 07h, create, w = 3, MCDAS: 007F8707h")?;
+
+    let empty = Setup { page: 7, room: 512, ..setup };
+    let ran = collect(pair, &mut drive(ALL, [0; 4]), empty, quiet)?;
+    hold(ran.1 == 0 && ran.0.len() == 2 && ran.2 == 2 && ran.3 == [0; 512], "B = 0: two commands on 07h, empty copy")?;
+
+    let clear_after_header = |pair: &mut Pair, world: &mut World, sent: usize| {
+        if sent == 1 {
+            let cleared = pair.command(world, &candidate([0; 4]), [0x007F_0008, 0, 0, 0, 0], &mut vec![0; 512])?.0;
+            hold(cleared == 0, "another host clears")?;
+            let (answer, bytes) = read(pair, world, 8, 512, 512)?;
+            hold(answer == 0 && bytes == [0; 512], "08h cleared: a read at 512 gives zeros")?;
+        }
+        Ok(())
+    };
+    let ran = collect(pair, &mut world, setup, clear_after_header)?;
+    hold(ran.1 == 10 && ran.3 == vec![0; 9 * 512], "08h cleared by another host mid-run: the last check gives 10")?;
+
+    let capture_on_08h = |pair: &mut Pair, world: &mut World, _: usize| {
+        pair.capture(world, &candidate([1, 2, 3, 4])).map(|_| ())
+    };
+    let ran = collect(pair, &mut drive(ALL, [1, 2, 3, 4]), Setup { page: 7, ..setup }, capture_on_08h)?;
+    hold(ran.1 == 0 && ran.2 == 3, "on 07h, bytes 382 and 383 may change with no host capture")
+}
+
+/// A row of a header's layout: first byte, last byte, name, and what stands there in `shown_drive`.
+type HeaderRow = (usize, usize, &'static str, &'static [u8]);
+
+/// Page 07h: document 001's table, whose rows 07:05 to 11:10 and 380 to 383 stand one text apart and whose "79:20" and "11:384" are
+/// 379:20 and 511:384; the same in document 003, figure 205, but for the scope; in document 01's table from 380 on.
+const HEADER_07H: [HeaderRow; 14] = [
+    (0, 0, "LID", &[0x07]),
+    (1, 4, "Reserved", &[]),
+    (5, 7, "IEEE", &[0x56, 0x34, 0x12]),
+    (8, 9, "THDA1LB", &[0x02, 0x01]),
+    (10, 11, "THDA2LB", &[0x04, 0x03]),
+    (12, 13, "THDA3LB", &[0x06, 0x05]),
+    (14, 15, "Reserved", &[]),
+    (16, 19, "THDA4LB", &[0x08, 0x07, 0x00, 0x00]),
+    (20, 379, "Reserved", &[]),
+    (380, 380, "THS", &[0x01]),
+    (381, 381, "THDGN", &[0xB1]),
+    (382, 382, "TCDA", &[0x01]),
+    (383, 383, "TCDGN", &[0xB2]),
+    (384, 511, "RID", &[0xC7; 128]),
+];
+
+/// Page 08h: document 000's table up to 380; from 381 on it is shifted by one row and document 01's table stands instead, which document
+/// 003, figure 206, confirms for 382 to 511.
+const HEADER_08H: [HeaderRow; 14] = [
+    (0, 0, "LID", &[0x08]),
+    (1, 4, "Reserved", &[]),
+    (5, 7, "IEEE", &[0x56, 0x34, 0x12]),
+    (8, 9, "TCDA1LB", &[0x0A, 0x01]),
+    (10, 11, "TCDA2LB", &[0x0B, 0x02]),
+    (12, 13, "TCDA3LB", &[0x0C, 0x03]),
+    (14, 15, "Reserved", &[]),
+    (16, 19, "TCDA4LB", &[0x0D, 0x04, 0x00, 0x00]),
+    (20, 379, "Reserved", &[]),
+    (380, 380, "Reserved", &[]),
+    (381, 381, "scope", &[0x02]),
+    (382, 382, "TCDA", &[0x01]),
+    (383, 383, "TCDGN", &[0xB2]),
+    (384, 511, "RID", &[0xC8; 128]),
+];
+
+/// A record in which every field of both headers has a value of its own.
+fn shown_drive() -> World {
+    let mut world = drive(ALL, [0x0102, 0x0304, 0x0506, 0x0708]);
+    generate::put_last(&mut world.record, at::CONTROLLER_LAST, [0x010A, 0x020B, 0x030C, 0x040D]);
+    world.record[at::HOST_GENERATION] = 0xB1;
+    world.record[at::CONTROLLER_GENERATION] = 0xB2;
+    world.record[at::AVAILABLE] = 1;
+    world.record[at::OUI..at::OUI + 3].copy_from_slice(&[0x56, 0x34, 0x12]);
+    world.record[at::REASONS..at::REASONS + REASON].fill(0xC7);
+    world.record[at::REASONS + REASON..].fill(0xC8);
+    world.host_store = vec![1; 0x0708 * BLOCK];
+    world.controller_store = vec![2; 0x040D * BLOCK];
+    world
+}
+
+/// Both headers as the tables lay them out, written by the controller and read by the host.
+pub fn header_tables(pair: &mut Pair, _: &mut Random) -> Same<()> {
+    let mut world = shown_drive();
+    for (page, rows) in [(7, HEADER_07H), (8, HEADER_08H)] {
+        let (answer, header) = read(pair, &mut world, page, 0, 512)?;
+        hold(answer == 0, "the header is always there")?;
+        let mut place = 0;
+        for (first, last, name, shown) in rows {
+            let due = if shown.is_empty() { vec![0; last + 1 - first] } else { shown.to_vec() };
+            let row = format!("page {page:02}h, bytes {last}:{first}, {name}, has {}", hex(&header[first..=last]));
+            hold(first == place && header[first..=last] == due, &row)?;
+            place = last + 1;
+        }
+        hold(place == 512, "the rows cover the header")?;
+        fields_are_read(pair, page as u8, &header)?;
+    }
+    Ok(())
+}
+
+/// The fields that the host reads from the headers above.
+fn fields_are_read(pair: &mut Pair, page: u8, header: &[u8]) -> Same<()> {
+    let (answer, fields) = pair.check(page, 1, header)?;
+    let host = page == 7;
+    hold(answer == 0, "the header is good")?;
+    hold(fields[..5] == if host { [7, 1, 0xB1, 1, 0xB2] } else { [8, 2, 0, 1, 0xB2] }, "page, scope, generations, TCDA")?;
+    hold(get_u32(&fields, 8) == 0x0012_3456, "OUI")?;
+    let last = [12, 16, 20, 24].map(|at| get_u32(&fields, at));
+    let due = if host { [0x0102, 0x0304, 0x0506, 0x0708] } else { [0x010A, 0x020B, 0x030C, 0x040D] };
+    hold(last == due, "last blocks")?;
+    hold(fields[28..] == [if host { 0xC7 } else { 0xC8 }; 128], "reason")
+}
+
+/// Document 001, table of the scope field, and document 01: above 2 is bad.
+pub fn scope_table(pair: &mut Pair, _: &mut Random) -> Same<()> {
+    let mut world = shown_drive();
+    for (page, byte) in [(7, 380), (8, 381)] {
+        let (_, mut header) = read(pair, &mut world, page, 0, 512)?;
+        for scope in 0..=255 {
+            header[byte] = scope;
+            // 00h not reported, 01h controller, 02h NVM subsystem, 03h to FFh reserved
+            let due = if scope <= 2 { 0 } else { 7 };
+            hold(pair.check(page as u8, 1, &header)?.0 == due, &format!("scope {scope} on {page:02}h: {due}"))?;
+        }
+    }
+    Ok(())
+}
+
+/// Document 001, table of MCDA, with the candidate (1,2,3,4): the areas that are kept, or none where the value is reserved.
+pub fn mcda_table(pair: &mut Pair, _: &mut Random) -> Same<()> {
+    let rows: [(u32, Option<LastBlocks>); 8] = [
+        (0b000, Some([1, 2, 3, 4])), // the controller determines the data areas
+        (0b001, Some([1, 1, 1, 1])), // Data Area 1
+        (0b010, Some([1, 2, 2, 2])), // Data Area 1 through Data Area 2
+        (0b011, Some([1, 2, 3, 3])), // Data Area 1 through Data Area 3
+        (0b100, Some([1, 2, 3, 4])), // Data Area 1 through Data Area 4
+        (0b101, None),               // Reserved
+        (0b110, None),
+        (0b111, None),
+    ];
+    for (mcda, stored) in rows {
+        let words = [0x007F_8107 | mcda << 9, 0, 0, 0, 0];
+        let mut world = drive(ALL, [0; 4]);
+        let (answer, _) = pair.command(&mut world, &candidate([1, 2, 3, 4]), words, &mut vec![0; 512])?;
+        let last = generate::last_of(&world.record, at::HOST_LAST);
+        hold(answer == stored.is_none() as u8 && last == stored.unwrap_or([0; 4]), &format!("MCDA {mcda:03b}b: {stored:?}"))?;
+        // "If the MCDAS bit is cleared to '0' [..], then this field shall be ignored by the controller."
+        let mut world = drive(ALL & !MCDAS, [0; 4]);
+        let (answer, _) = pair.command(&mut world, &candidate([1, 2, 3, 4]), words, &mut vec![0; 512])?;
+        let last = generate::last_of(&world.record, at::HOST_LAST);
+        hold(answer == 0 && last == [1, 2, 3, 4], &format!("MCDA {mcda:03b}b without MCDAS is ignored"))?;
+    }
+    Ok(())
+}
+
+/// Documents 000 and 001, "The size of the log page is variable": which area's last block sizes the page, by DA4S and ETDAS.
+pub fn size_table(pair: &mut Pair, _: &mut Random) -> Same<()> {
+    let rows: [(u8, LastBlocks, u32); 4] = [
+        (0, [1, 2, 3, 0], 3),
+        (ETDAS, [1, 2, 3, 0], 3),
+        (DA4S | ETDAS, [1, 2, 3, 6], 6),
+        (DA4S, [1, 2, 3, 6], 3),
+    ];
+    for (caps, last, sized_by) in rows {
+        let mut world = drive(EXTENDED | TELEMETRY | caps, last);
+        generate::put_last(&mut world.record, at::CONTROLLER_LAST, last);
+        world.record[at::AVAILABLE] = 1;
+        for (page, base) in [(7, 0x00), (8, 0x80)] {
+            let size = 512 * (1 + sized_by);
+            let row = format!("{page:02}h with caps {caps}: {size} bytes");
+            // "The controller shall return data for all blocks requested": here zeros where it is undefined.
+            let due = [[base + sized_by as u8; 512], [0; 512]].concat();
+            let got = read(pair, &mut world, page, size - 512, 1_024)?;
+            hold(got == (0, due), &row)?;
+            // Document 004: an offset greater than the size is an Invalid Field in Command.
+            hold(read(pair, &mut world, page, size, 512)? == (0, vec![0; 512]), &row)?;
+            hold(read(pair, &mut world, page, size + 512, 512)?.0 == 1, &row)?;
+        }
+    }
+    Ok(())
+}
+
+/// Document 004, tables 1 and 2, and document 001, figure 217: dword, highest bit, lowest bit and name of each field of the command.
+const COMMAND_FIELDS: [(usize, u32, u32, &str); 13] = [
+    (10, 31, 16, "NUMDL"),
+    (10, 15, 15, "RAE"),
+    (10, 14, 12, "LSP, of which figure 217 has 11:8"),
+    (10, 11, 9, "MCDA"),
+    (10, 8, 8, "CTHID"),
+    (10, 7, 0, "LID"),
+    (11, 31, 16, "LSI"),
+    (11, 15, 0, "NUMDU"),
+    (12, 31, 0, "LPOL"),
+    (13, 31, 0, "LPOU"),
+    (14, 31, 24, "CSI"),
+    (14, 23, 23, "OT"),
+    (14, 22, 0, "Reserved and UIDX"),
+];
+
+fn field(words: &Words, name: &str) -> u32 {
+    let (dword, high, low, _) = COMMAND_FIELDS.into_iter().find(|row| row.3 == name).expect("a field of the table");
+    (words[dword - 10] >> low) & (u32::MAX >> (31 - (high - low)))
+}
+
+/// What the builder builds, read field by field at the table's places.
+pub fn builder_fields(pair: &mut Pair, _: &mut Random) -> Same<()> {
+    let rows = [
+        (7, 0, 0, 0, 0, 1),
+        (7, 1, 0, 1, 0, 1),
+        (7, 1, 4, 1, 0, 1),
+        (7, 1, 3, 0, 5, 3),
+        (8, 0, 0, 1, 1_048_576, 512),
+        (8, 0, 0, 0, 1, 513),
+        (8, 0, 0, 1, 4_097, 8_192),
+    ];
+    for (page, create, mcda, rae, offset, blocks) in rows {
+        let (answer, words) = pair.words(page, create, mcda, rae, offset, blocks)?;
+        // "The combined NUMDL field and NUMDU field form a 0's based value."
+        let dwords = field(&words, "NUMDL") + (field(&words, "NUMDU") << 16) + 1;
+        let got = (field(&words, "LID"), field(&words, "CTHID"), field(&words, "MCDA"), field(&words, "RAE"));
+        let row = format!("builder {page} {create} {mcda} {rae} {offset} {blocks}");
+        hold(answer == 0 && got == (page as u32, create as u32, mcda as u32, rae as u32), &row)?;
+        hold(dwords == 128 * blocks && field(&words, "LPOL") == 512 * offset, &row)?;
+        for name in ["LSP, of which figure 217 has 11:8", "LSI", "LPOU", "CSI", "OT", "Reserved and UIDX"] {
+            hold(field(&words, name) == 0, &format!("{row}: {name} is 0"))?;
+        }
+    }
+    Ok(())
+}
+
+/// What the controller makes of each field: those it ignores change nothing when all their bits are set, the others do.
+pub fn controller_fields(pair: &mut Pair, _: &mut Random) -> Same<()> {
+    let base = [0x007F_8008, 0, 0, 0, 0];
+    for (dword, high, low, name) in COMMAND_FIELDS {
+        let mut words: Words = base;
+        words[dword - 10] |= (u32::MAX >> (31 - (high - low))) << low;
+        let mut world = shown_drive();
+        let mut buffer = vec![0; 1_024];
+        let (answer, class) = pair.command(&mut world, &candidate([0; 4]), words, &mut buffer)?;
+        let due = match name {
+            "NUMDL" => 3,
+            "NUMDU" => 3,
+            "LID" => 2,
+            "LPOL" | "LPOU" | "OT" => 1,
+            _ => 0,
+        };
+        let class_due = if name == "LID" { 2 } else { 0 };
+        hold((answer, class) == (due, class_due), &format!("CDW{dword} bits {high}:{low}, {name}, all set: {due}"))?;
+        hold(world.record == shown_drive().record, &format!("{name} changes no record"))?;
+    }
+    let mut world = shown_drive();
+    let (answer, _) = pair.command(&mut world, &candidate([0; 4]), [0x007F_0008, 0, 0, 0, 0], &mut vec![0; 512])?;
+    let cleared = (world.record[at::AVAILABLE], generate::last_of(&world.record, at::CONTROLLER_LAST));
+    hold(answer == 0 && cleared == (0, [0; 4]), "RAE 0 on 08h clears")
+}
+
+/// Document 004, "If extended data is not supported, then bits 27:16 [..] specify the Number of Dwords", with document 01's house rule.
+pub fn without_extended_data(pair: &mut Pair, _: &mut Random) -> Same<()> {
+    let rows: [(Words, usize, u8); 6] = [
+        ([0x007F_8007, 0x0000_0000, 0, 0, 0], 512, 0),
+        ([0xF07F_8007, 0xFFFF_FFFF, 0, 0, 0], 512, 0),
+        ([0x0FFF_8007, 0x0000_0000, 0, 0, 0], 16_384, 0),
+        ([0x0FFF_8007, 0x0000_0000, 0, 0, 0], 16_383, 3),
+        ([0x007F_8007, 0x0000_0000, 512, 0, 0], 512, 1),
+        ([0x007F_8007, 0x0000_0000, 0, 1, 0], 512, 1),
+    ];
+    for (words, bytes, due) in rows {
+        let mut world = drive(TELEMETRY, [2, 2, 5, 0]);
+        let (answer, _) = pair.command(&mut world, &candidate([0; 4]), words, &mut vec![0xDD; bytes])?;
+        hold(answer == due, &format!("without extended data {words:08X?} into {bytes} bytes: {due}"))?;
+    }
+    Ok(())
+}
+
+const NAMED: u8 = 0;
+const ELSEWHERE: u8 = 1;
+const VENDOR: u8 = 2;
+const RESERVED: u8 = 3;
+
+/// Document 004, figure 206 (the table of log page identifiers), row by row.
+const IDENTIFIERS: [(u8, u8, u8, &str); 50] = [
+    (0x00, 0x00, NAMED, "Supported Log Pages"),
+    (0x01, 0x01, NAMED, "Error Information"),
+    (0x02, 0x02, NAMED, "SMART / Health Information"),
+    (0x03, 0x03, NAMED, "Firmware Slot Information"),
+    (0x04, 0x04, NAMED, "Changed Attached Namespace List"),
+    (0x05, 0x05, NAMED, "Commands Supported and Effects"),
+    (0x06, 0x06, NAMED, "Device Self-test"),
+    (0x07, 0x07, NAMED, "Telemetry Host-Initiated"),
+    (0x08, 0x08, NAMED, "Telemetry Controller-Initiated"),
+    (0x09, 0x09, NAMED, "Endurance Group Information"),
+    (0x0A, 0x0A, NAMED, "Predictable Latency Per NVM Set"),
+    (0x0B, 0x0B, NAMED, "Predictable Latency Event Aggregate"),
+    (0x0C, 0x0C, NAMED, "Asymmetric Namespace Access"),
+    (0x0D, 0x0D, NAMED, "Persistent Event Log"),
+    (0x0E, 0x0E, ELSEWHERE, "Refer to the NVM Express NVM Command Set Specification"),
+    (0x0F, 0x0F, NAMED, "Endurance Group Event Aggregate"),
+    (0x10, 0x10, NAMED, "Media Unit Status"),
+    (0x11, 0x11, NAMED, "Supported Capacity Configuration List"),
+    (0x12, 0x12, NAMED, "Feature Identifiers Supported and Effects"),
+    (0x13, 0x13, NAMED, "NVMe-MI Commands Supported and Effects"),
+    (0x14, 0x14, NAMED, "Command and Feature Lockdown"),
+    (0x15, 0x15, NAMED, "Boot Partition"),
+    (0x16, 0x16, NAMED, "Rotational Media Information"),
+    (0x17, 0x17, NAMED, "Dispersed Namespace Participating NVM Subsystems"),
+    (0x18, 0x18, NAMED, "Management Address List"),
+    (0x19, 0x19, ELSEWHERE, "Refer to the applicable NVM Express Transport specification"),
+    (0x1A, 0x1A, NAMED, "Reachability Groups"),
+    (0x1B, 0x1B, NAMED, "Reachability Associations"),
+    (0x1C, 0x1C, NAMED, "Changed Allocated Namespace List"),
+    (0x1D, 0x1D, NAMED, "Device Personalities"),
+    (0x1E, 0x1E, NAMED, "Cross-Controller Reset"),
+    (0x1F, 0x1F, NAMED, "Lost Host Communication"),
+    (0x20, 0x20, NAMED, "FDP Configurations"),
+    (0x21, 0x21, NAMED, "Reclaim Unit Handle Usage"),
+    (0x22, 0x22, NAMED, "FDP Statistics"),
+    (0x23, 0x23, NAMED, "FDP Events"),
+    (0x24, 0x24, RESERVED, "Reserved"),
+    (0x25, 0x25, NAMED, "Power Measurement"),
+    (0x26, 0x6F, RESERVED, "Reserved"),
+    (0x70, 0x70, NAMED, "Discovery"),
+    (0x71, 0x71, NAMED, "Host Discovery"),
+    (0x72, 0x72, NAMED, "AVE Discovery"),
+    (0x73, 0x73, NAMED, "Pull Model DDC Request"),
+    (0x74, 0x7E, RESERVED, "Reserved"),
+    (0x7F, 0x7F, NAMED, "Sanitize Namespace Status List"),
+    (0x80, 0x80, NAMED, "Reservation Notification"),
+    (0x81, 0x81, NAMED, "Sanitize Status"),
+    (0x82, 0xBE, ELSEWHERE, "I/O Command Set Specific"),
+    (0xBF, 0xBF, ELSEWHERE, "Refer to the NVM Express Zoned Namespace Command Set Specification"),
+    (0xC0, 0xFF, VENDOR, "Vendor specific"),
+];
+
+/// Every identifier's class, and with answer 2 the same one.
+pub fn identifier_table(pair: &mut Pair, _: &mut Random) -> Same<()> {
+    let mut next = 0;
+    for (first, last, class, name) in IDENTIFIERS {
+        hold(first as u32 == next, "the rows follow one another")?;
+        for identifier in first..=last {
+            let row = format!("{identifier:02X}h, {name}: class {class}");
+            hold(pair.class(identifier)? == class, &row)?;
+            // With LPA bit 3 clear no identifier is served, 07h and 08h no more than others.
+            let words = [0x007F_8000 | identifier as u32, 0, 0, 0, 0];
+            let mut world = drive(EXTENDED, [0; 4]);
+            let given = pair.command(&mut world, &candidate([0; 4]), words, &mut vec![0; 512])?;
+            hold(given == (2, class), &row)?;
+        }
+        next = last as u32 + 1;
+    }
+    hold(next == 256, "the rows cover all identifiers")
+}
+
+/// Document 01, "Answer numbers": generic 02h, command specific 09h.
+pub fn status_table(pair: &mut Pair, _: &mut Random) -> Same<()> {
+    for (answer, due) in [(0, 0x0000), (1, 0x0002), (2, 0x0109), (3, 0xFFFF), (15, 0xFFFF), (255, 0xFFFF)] {
+        hold(pair.status(answer)? == due, &format!("answer {answer} has the status {due:04X}h"))?;
+    }
+    Ok(())
+}
+
+/// Document 002: "If Data Area 4 is created, then Data Area 3 of non-zero length shall also be created"; document 01's other rules of a
+/// candidate, on a drive of four areas and on one of three.
+pub fn candidate_table(pair: &mut Pair, _: &mut Random) -> Same<()> {
+    let rows: [(LastBlocks, u8, u8, u8); 9] = [
+        // last blocks, answer of a create, of a capture, of a create on a drive of three areas
+        ([0, 0, 0, 1], 5, 5, 5),
+        ([0, 0, 1, 1], 0, 0, 0),
+        ([2, 2, 5, 0], 5, 5, 5),
+        ([2, 1, 5, 5], 5, 5, 5),
+        ([1, 2, 1, 5], 5, 5, 5),
+        ([0, 0, 0, 0], 0, 5, 0),
+        ([1, 2, 5, 12], 0, 0, 0),
+        ([1, 2, 5, 13], 5, 5, 0),
+        ([1, 2, 13, 13], 5, 5, 5),
+    ];
+    for (last, create, capture, of_three) in rows {
+        let words = [0x007F_8107, 0, 0, 0, 0];
+        let offer = candidate(last);
+        let given = pair.command(&mut drive(ALL, [0; 4]), &offer, words, &mut vec![0; 512])?.0;
+        hold(given == create, &format!("create of {last:?}: {create}"))?;
+        hold(pair.capture(&mut drive(ALL, [0; 4]), &offer)? == capture, &format!("capture of {last:?}: {capture}"))?;
+        let given = pair.command(&mut drive(ALL & !DA4S, [0; 4]), &offer, words, &mut vec![0; 512])?.0;
+        hold(given == of_three, &format!("create of {last:?} on a drive of three areas: {of_three}"))?;
+    }
+    Ok(())
+}

@@ -1,0 +1,462 @@
+//! Whole runs: a collection against a drive on which captures, clearings by other hosts, creates by other hosts and refused commands
+//! happen in between. Every call goes to the pair; what document 01 claims of a run is checked besides.
+
+use crate::boundary::{get_u32, get_u64, Setup, ENDED, NEXT_BYTES, REFUSED, SEND, STATE_BYTES};
+use crate::generate::{self, asked_bytes, at};
+use crate::orders::small_setup;
+use crate::pair::{Difference, Offer, Pair, Same, World};
+use crate::random::Random;
+use crate::rules::*;
+
+const FIRST_HEADER: u8 = 0;
+const CHUNK: u8 = 1;
+const HEADER_AFTER_REFUSAL: u8 = 3;
+const ACKNOWLEDGEMENT: u8 = 4;
+
+pub fn words_of(next: &[u8; NEXT_BYTES]) -> Words {
+    [4, 8, 12, 16, 20].map(|at| get_u32(next, at))
+}
+
+/// A run with the books that its claims need.
+struct Run {
+    world: World,
+    setup: Setup,
+    state: [u8; STATE_BYTES],
+    next: [u8; NEXT_BYTES],
+    copy: Vec<u8>,
+    /// nothing but the drive completes commands, and it is lent what it needs
+    honest: bool,
+    /// percent of the gaps between own commands in which something happens
+    busy: u32,
+    sent: u64,
+    /// captures of the run's page since its first command
+    captures: u64,
+    /// of them, those since the last check
+    captures_since_check: u64,
+    /// the wanted area when the closing header was last read
+    area_at_check: Vec<u8>,
+    /// the most chunks that a header called for
+    chunks: u64,
+}
+
+pub fn runs(pair: &mut Pair, random: &mut Random) -> Same<()> {
+    let mut run = begin(pair, random)?;
+    while run.next[0] == SEND {
+        if run.sent > 20_000 {
+            return Err(Difference("a run does not end".to_string()));
+        }
+        run.one_command(pair, random)?;
+        if run.next[0] == SEND && random.chance(run.busy) {
+            run.happenings(pair, random)?;
+        }
+    }
+    run.check_ending()?;
+    let next = pair.step(&mut run.state, 1, &[], &mut run.copy)?;
+    claim(next[0] == REFUSED && next[1] == ALREADY_ENDED, "a step after the ending is 14")
+}
+
+fn claim(holds: bool, what: &str) -> Same<()> {
+    if holds {
+        return Ok(());
+    }
+    Err(Difference(format!("both agree, but the run breaks a claim of document 01: {what}")))
+}
+
+/// A random drive, and a collection from it whose setup is taken.
+fn begin(pair: &mut Pair, random: &mut Random) -> Same<Run> {
+    let plan = small_setup(random, 0);
+    let mut world = generate::world(random, plan.caps);
+    let spare = random.up_to(6) as usize * BLOCK;
+    world.host_store.extend(vec![1; spare]);
+    world.controller_store.extend(vec![2; spare]);
+    let store = if plan.page == HOST_PAGE { &world.host_store } else { &world.controller_store };
+    let all = (store.len() / BLOCK) as u32;
+    let now = area_last(&world, plan);
+    let any = random.up_to(all);
+    let blocks = random.pick(&[all, all, all, all + 3, now, now.saturating_sub(1), any]);
+    let attempts = random.pick(&[1, 2, 2, 3, 4, 8, 256]);
+    // A large area goes in large chunks, so that no run takes hundreds of commands.
+    let chunk = if all > 40 { random.pick(&[100, 513, 8_192]) } else { random.pick(&[1, 1, 2, 3, 4, 7, 8_192]) };
+    let setup = Setup { room: blocks as u64 * 512, attempts, chunk, ..plan };
+    let (state, next) = pair.setup(setup)?;
+    claim(next[0] == SEND, "a good setup gives a command")?;
+    let copy = random.bytes(setup.room as usize);
+    let honest = random.chance(75);
+    let busy = random.pick(&[0, 5, 20, 50, 90]);
+    let area_at_check = Vec::new();
+    Ok(Run { world, setup, state, next, copy, honest, busy, sent: 0, captures: 0, captures_since_check: 0, area_at_check, chunks: 0 })
+}
+
+/// The last block of the wanted area as the drive has it.
+fn area_last(world: &World, setup: Setup) -> u32 {
+    let at = if setup.page == HOST_PAGE { at::HOST_LAST } else { at::CONTROLLER_LAST };
+    generate::last_of(&world.record, at)[setup.area as usize - 1]
+}
+
+impl Run {
+    fn store(&self) -> &[u8] {
+        if self.setup.page == HOST_PAGE {
+            &self.world.host_store
+        } else {
+            &self.world.controller_store
+        }
+    }
+
+    /// Sends the awaited command to the drive and takes its completion.
+    fn one_command(&mut self, pair: &mut Pair, random: &mut Random) -> Same<()> {
+        let words = words_of(&self.next);
+        let asked = asked_bytes(self.setup.caps, words) as usize;
+        let short = !self.honest && random.chance(3);
+        let length = if short { asked - 1 } else { asked + random.pick(&[0, 0, 1, 512]) };
+        let mut buffer = random.bytes(length);
+        let offer = self.own_offer(random);
+        let (answer, _) = pair.command(&mut self.world, &offer, words, &mut buffer)?;
+        self.sent += 1;
+        self.book_command(answer)?;
+        buffer.truncate(if answer == SUCCESS { asked } else { 0 });
+        let mut ok = answer == SUCCESS;
+        if !self.honest {
+            tamper(random, &mut ok, &mut buffer);
+        }
+        if random.chance(6) {
+            self.unfit_completion(pair, random, ok, &buffer)?;
+        }
+        let flag = random.flag(ok);
+        self.next = pair.step(&mut self.state, flag, &buffer, &mut self.copy)?;
+        claim(self.next[0] != REFUSED, "a completion that fits is taken")?;
+        let wanted = get_u32(&self.state, 36 + 4 * self.setup.area as usize);
+        self.chunks = self.chunks.max(wanted.div_ceil(self.setup.chunk) as u64);
+        Ok(())
+    }
+
+    /// The candidate that an own command is lent: the first create needs a good one, all others may be lent anything.
+    fn own_offer(&self, random: &mut Random) -> Offer {
+        let store = self.world.host_store.len();
+        if self.state[0] != FIRST_HEADER || !self.honest {
+            return generate::any_offer(random, store);
+        }
+        let a3 = random.up_to((store / BLOCK) as u32);
+        let a1 = random.up_to(a3);
+        let last = [a1, a3, a3, a3];
+        Offer { last, bytes: random.bytes(a3 as usize * BLOCK), reason: random.bytes(REASON) }
+    }
+
+    /// Books an own command, and claims that an honest drive refuses no more than a chunk.
+    fn book_command(&mut self, answer: u8) -> Same<()> {
+        let phase = self.state[0];
+        if self.honest {
+            let may_be_refused = phase == CHUNK && answer == INVALID_FIELD;
+            claim(answer == SUCCESS || may_be_refused, "a header or an acknowledgement is not refused")?;
+        }
+        if phase != CHUNK && phase != ACKNOWLEDGEMENT {
+            let last = area_last(&self.world, self.setup);
+            self.area_at_check = self.store()[..last as usize * BLOCK].to_vec();
+            self.captures_since_check = 0;
+            self.chunks = self.chunks.max(last.div_ceil(self.setup.chunk) as u64);
+        }
+        Ok(())
+    }
+
+    /// A completion that does not fit: 15, and nothing changes.
+    fn unfit_completion(&mut self, pair: &mut Pair, random: &mut Random, ok: bool, data: &[u8]) -> Same<()> {
+        let mut data = data.to_vec();
+        let mut copy = self.copy.clone();
+        match random.up_to(2) {
+            0 => data.push(0),
+            1 if ok => data.truncate(data.len() - 1),
+            _ => copy.push(0),
+        }
+        let (state, before) = (self.state, copy.clone());
+        let next = pair.step(&mut self.state, random.flag(ok), &data, &mut copy)?;
+        claim(next[0] == REFUSED && next[1] == DOES_NOT_FIT, "a completion that does not fit is 15")?;
+        claim(self.state == state && copy == before, "15 changes nothing")
+    }
+
+    /// What others do between two own commands.
+    fn happenings(&mut self, pair: &mut Pair, random: &mut Random) -> Same<()> {
+        // Now and then as many captures as bring a generation back to where it was, or nearly.
+        let small = self.store().len() < 8 * BLOCK;
+        let times = if small && random.chance(2) { random.pick(&[255, 256]) } else { random.pick(&[1, 1, 1, 2, 3]) };
+        for _ in 0..times {
+            let captured = match random.up_to(9) {
+                _ if times > 3 => self.own_page_capture(pair, random)?,
+                0..=3 => self.own_page_capture(pair, random)?,
+                4 => self.controller_capture(pair, random)?,
+                5 => self.foreign_create(pair, random)?,
+                6 => self.foreign_clearing(pair, random)?,
+                _ => self.foreign_command(pair, random)?,
+            };
+            self.captures += captured as u64;
+            self.captures_since_check += captured as u64;
+        }
+        Ok(())
+    }
+
+    fn own_page_capture(&mut self, pair: &mut Pair, random: &mut Random) -> Same<bool> {
+        if self.setup.page == HOST_PAGE {
+            self.foreign_create(pair, random)
+        } else {
+            self.controller_capture(pair, random)
+        }
+    }
+
+    /// Whether it was a capture of the run's page, as for all happenings.
+    fn controller_capture(&mut self, pair: &mut Pair, random: &mut Random) -> Same<bool> {
+        let mut offer = generate::offer(random, self.world.controller_store.len());
+        if random.chance(5) {
+            generate::break_offer(random, &mut offer);
+        }
+        let answer = pair.capture(&mut self.world, &offer)?;
+        Ok(answer == SUCCESS && self.setup.page == CONTROLLER_PAGE)
+    }
+
+    fn foreign_create(&mut self, pair: &mut Pair, random: &mut Random) -> Same<bool> {
+        let offer = generate::any_offer(random, self.world.host_store.len());
+        let mcda = random.pick(&[0, 0, 1, 2, 3, 4, 5]);
+        let offset = random.pick(&[0, 0, 512, 4_096]);
+        let words = [0x007F_0107 | mcda << 9 | random.pick(&[0, 1 << 15]), 0, offset, 0, 0];
+        self.foreign(pair, random, &offer, words)
+    }
+
+    fn foreign_clearing(&mut self, pair: &mut Pair, random: &mut Random) -> Same<bool> {
+        let offer = generate::any_offer(random, 0);
+        let words = [0x007F_0008, 0, random.pick(&[0, 0, 512, 1_024]), 0, 0];
+        self.foreign(pair, random, &offer, words)
+    }
+
+    fn foreign_command(&mut self, pair: &mut Pair, random: &mut Random) -> Same<bool> {
+        let offer = generate::any_offer(random, self.world.host_store.len());
+        let words = generate::words(random, &self.world, &offer);
+        self.foreign(pair, random, &offer, words)
+    }
+
+    fn foreign(&mut self, pair: &mut Pair, random: &mut Random, offer: &Offer, words: Words) -> Same<bool> {
+        let mut buffer = generate::buffer(random, self.setup.caps, words);
+        let (answer, _) = pair.command(&mut self.world, offer, words, &mut buffer)?;
+        let creates = words[0] & 0x1FF == 0x107;
+        Ok(answer == SUCCESS && creates && self.setup.page == HOST_PAGE)
+    }
+
+    /// What document 01 claims of every ending, and of those of an honest run.
+    fn check_ending(&self) -> Same<()> {
+        let (answer, newer, count) = (self.next[1], self.next[2], get_u64(&self.next, 24));
+        let attempts = self.setup.attempts as u64;
+        claim(self.next[0] == ENDED && self.state[0] == 5, "the state has ended")?;
+        claim(count == self.sent, "the answer gives the number of commands sent")?;
+        claim(count <= 2 + attempts * (self.chunks + 1), "a run ends within 2 + attempts * (C + 1) commands")?;
+        let kept = if answer == SUCCESS { get_u32(&self.state, 36 + 4 * self.setup.area as usize) } else { 0 };
+        let tail = &self.copy[kept as usize * BLOCK..];
+        claim(tail.iter().all(|byte| *byte == 0), "zeros stand after what an ending keeps")?;
+        if self.honest {
+            self.check_honest_ending(answer, newer == 1, count)?;
+        }
+        Ok(())
+    }
+
+    fn check_honest_ending(&self, answer: u8, newer: bool, count: u64) -> Same<()> {
+        let controller_page = self.setup.page == CONTROLLER_PAGE;
+        let bound = 1 + (self.captures + 1) * (self.chunks + 1) + controller_page as u64;
+        claim(count <= bound, "a run ends within 1 + (k + 1)(C + 1) commands, one more on 08h")?;
+        if self.captures > 255 {
+            return Ok(());
+        }
+        let may_be_used_up = self.captures >= self.setup.attempts as u64;
+        let allowed = match answer {
+            SUCCESS | NO_ROOM => true,
+            ATTEMPTS_USED_UP => may_be_used_up,
+            WITHDRAWN | NOTHING => controller_page,
+            _ => false,
+        };
+        claim(allowed, "an honest drive's run ends with 0, 8, 10 or 11, and with 9 only if captures use up the attempts")?;
+        if answer == SUCCESS {
+            let area = self.copy.get(..self.area_at_check.len());
+            claim(area == Some(&self.area_at_check[..]), "the copy is the wanted area at the last check")?;
+            let tail = &self.copy[self.area_at_check.len()..];
+            claim(tail.iter().all(|byte| *byte == 0), "zeros stand after the wanted area")?;
+            let told = controller_page && self.captures_since_check > 0;
+            claim(newer == told, "newer tells of a capture between the last check and the acknowledgement")?;
+        }
+        Ok(())
+    }
+}
+
+/// A drive that refuses or lies.
+fn tamper(random: &mut Random, ok: &mut bool, data: &mut Vec<u8>) {
+    if random.chance(6) {
+        *ok = false;
+        data.clear();
+    }
+    if *ok && random.chance(12) {
+        let at = random.pick(&[0, 8, 10, 12, 16, 380, 381, 382, 383, 383, 500]);
+        data[at] = random.pick(&[0, 1, 2, 3, 7, 8, 255]);
+    }
+}
+
+/// What happens after an own command of a scripted run.
+enum Event {
+    Capture(LastBlocks),
+    Create(LastBlocks),
+    /// another host acknowledges
+    Clear,
+}
+
+/// A run of one capture plan, as its commands are expected: H first header, cN chunk at block N, h closing header, A acknowledgement, and
+/// ! after a refused one.
+struct Script {
+    page: u8,
+    last: LastBlocks,
+    generation: u8,
+    area: u8,
+    chunk: u32,
+    attempts: u32,
+    room: u32,
+    /// after which own command, from 1
+    events: &'static [(usize, Event)],
+    commands: &'static str,
+    answer: u8,
+    newer: bool,
+}
+
+/// Corner cases in which captures, clearings and the end of a page meet.
+const SCRIPTS: [Script; 17] = [
+    script(7, [0, 0, 3, 0], 2, 4, &[], "H c1 c3 h", 0, false),
+    script(7, [0, 0, 0, 0], 2, 4, &[], "H h", 0, false),
+    Script { area: 1, ..script(8, [0, 0, 3, 0], 2, 4, &[], "H h A", 0, false) },
+    script(8, [0, 0, 0, 0], 2, 4, &[], "H", 11, false),
+    script(7, [0, 0, 1, 0], 1, 4, &[(2, Event::Create([0, 0, 5, 5]))], "H c1 h", 8, false),
+    script(7, [0, 0, 1, 0], 1, 4, &[(2, Event::Create([0, 0, 4, 4]))], "H c1 h c1 c2 c3 c4 h", 0, false),
+    Script {
+        generation: 255,
+        ..script(7, [0, 0, 4, 0], 1, 4, &[(2, Event::Create([0, 0, 1, 1]))], "H c1 c2 c3! h c1 h", 0, false)
+    },
+    script(7, [0, 0, 4, 0], 1, 4, &[(1, Event::Create([0, 0, 0, 0]))], "H c1 c2! h h", 0, false),
+    script(
+        7,
+        [0, 0, 3, 0],
+        2,
+        4,
+        &[(3, Event::Create([0, 0, 3, 3])), (6, Event::Create([0, 0, 3, 3]))],
+        "H c1 c3 h c1 c3 h c1 c3 h",
+        0,
+        false,
+    ),
+    script(8, [0, 0, 3, 0], 1, 4, &[(1, Event::Clear)], "H c1 c2! h", 10, false),
+    script(8, [0, 0, 3, 0], 4, 4, &[(1, Event::Clear)], "H c1 h", 10, false),
+    Script {
+        generation: 255,
+        ..script(
+            8,
+            [0, 0, 3, 0],
+            1,
+            4,
+            &[(1, Event::Clear), (1, Event::Capture([0, 0, 2, 2]))],
+            "H c1 c2 c3 h c1 c2 h A",
+            0,
+            false,
+        )
+    },
+    script(
+        8,
+        [0, 0, 3, 0],
+        1,
+        4,
+        &[(1, Event::Clear), (3, Event::Capture([0, 0, 2, 2]))],
+        "H c1 c2! h c1 c2 h A",
+        0,
+        false,
+    ),
+    script(8, [0, 0, 1, 0], 1, 4, &[(3, Event::Capture([0, 0, 2, 2]))], "H c1 h A", 0, true),
+    script(8, [0, 0, 1, 0], 1, 4, &[(3, Event::Clear)], "H c1 h A", 0, false),
+    script(8, [0, 0, 1, 0], 1, 4, &[(3, Event::Clear), (3, Event::Capture([0, 0, 2, 2]))], "H c1 h A", 0, true),
+    Script {
+        attempts: 2,
+        ..script(
+            7,
+            [0, 0, 1, 0],
+            1,
+            4,
+            &[(2, Event::Create([0, 0, 5, 5])), (2, Event::Create([0, 0, 1, 1])), (4, Event::Create([0, 0, 9, 9]))],
+            "H c1 h c1 h",
+            9,
+            false,
+        )
+    },
+];
+
+#[allow(clippy::too_many_arguments)]
+const fn script(
+    page: u8,
+    last: LastBlocks,
+    chunk: u32,
+    room: u32,
+    events: &'static [(usize, Event)],
+    commands: &'static str,
+    answer: u8,
+    newer: bool,
+) -> Script {
+    Script { page, last, generation: 9, area: 3, chunk, attempts: 5, room, events, commands, answer, newer }
+}
+
+pub fn scripts(pair: &mut Pair, random: &mut Random) -> Same<()> {
+    SCRIPTS.iter().try_for_each(|script| play(pair, random, script))
+}
+
+fn offer_of(random: &mut Random, last: LastBlocks) -> Offer {
+    Offer { last, bytes: random.bytes(last[3] as usize * BLOCK), reason: random.bytes(REASON) }
+}
+
+fn play(pair: &mut Pair, random: &mut Random, script: &Script) -> Same<()> {
+    let caps = generate::EXTENDED | generate::TELEMETRY;
+    let (_, mut record) = pair.fresh(caps, 0x00C0_FFEE, 1, 2)?;
+    let host = script.page == HOST_PAGE;
+    generate::put_last(&mut record, if host { at::HOST_LAST } else { at::CONTROLLER_LAST }, script.last);
+    record[if host { at::HOST_GENERATION } else { at::CONTROLLER_GENERATION }] = script.generation;
+    record[at::AVAILABLE] = (!host && script.last[2] > 0) as u8;
+    let mut world = World { record, host_store: random.bytes(9 * BLOCK), controller_store: random.bytes(9 * BLOCK) };
+    let room = script.room as u64 * 512;
+    let Script { page, area, chunk, attempts, .. } = *script;
+    let (mut state, mut next) = pair.setup(Setup { page, create: 0, area, caps, chunk, attempts, room })?;
+    let mut copy = random.bytes(room as usize);
+    let mut told = String::new();
+    let mut sent = 0;
+    while next[0] == SEND && sent < 100 {
+        sent += 1;
+        let words = words_of(&next);
+        let mut buffer = random.bytes(asked_bytes(caps, words) as usize);
+        let nothing = offer_of(random, [0; 4]);
+        let (answer, _) = pair.command(&mut world, &nothing, words, &mut buffer)?;
+        let refused = answer != SUCCESS;
+        told += &format!("{}{} ", name_of(&state), if refused { "!" } else { "" });
+        buffer.truncate(if refused { 0 } else { buffer.len() });
+        next = pair.step(&mut state, !refused as u8, &buffer, &mut copy)?;
+        for (_, event) in script.events.iter().filter(|(after, _)| *after == sent) {
+            happen(pair, random, &mut world, event)?;
+        }
+    }
+    let got = (told.trim_end(), next[1], next[2] == 1, get_u64(&next, 24) as usize);
+    let due = (script.commands, script.answer, script.newer, script.commands.split(' ').count());
+    if got == due {
+        return Ok(());
+    }
+    Err(Difference(format!("scripted run: both gave {got:?}, but due is {due:?}")))
+}
+
+fn name_of(state: &[u8; STATE_BYTES]) -> String {
+    match state[0] {
+        FIRST_HEADER => "H".to_string(),
+        CHUNK => format!("c{}", get_u32(state, 20)),
+        ACKNOWLEDGEMENT => "A".to_string(),
+        2..=HEADER_AFTER_REFUSAL => "h".to_string(),
+        other => format!("phase {other}"),
+    }
+}
+
+fn happen(pair: &mut Pair, random: &mut Random, world: &mut World, event: &Event) -> Same<()> {
+    let mut buffer = vec![0; BLOCK];
+    let answer = match event {
+        Event::Capture(last) => pair.capture(world, &offer_of(random, *last))?,
+        Event::Create(last) => pair.command(world, &offer_of(random, *last), [0x007F_8107, 0, 0, 0, 0], &mut buffer)?.0,
+        Event::Clear => pair.command(world, &offer_of(random, [0; 4]), [0x007F_0008, 0, 0, 0, 0], &mut buffer)?.0,
+    };
+    claim(answer == SUCCESS, "what happens in a scripted run is taken")
+}
