@@ -205,7 +205,8 @@ pub fn break_offer(random: &mut Random, offer: &mut Offer) {
         2 => offer.last[2] = offer.last[3] + 1,
         3 => {
             let a4 = 1 + random.up_to(2);
-            *offer = Offer { last: [0, 0, 0, a4], bytes: random.bytes(a4 as usize * BLOCK), reason: random.bytes(REASON) };
+            *offer =
+                Offer { last: [0, 0, 0, a4], bytes: random.bytes(a4 as usize * BLOCK), reason: random.bytes(REASON) };
         }
         4 => offer.bytes.push(0),
         5 => offer.bytes.extend([0; BLOCK]),

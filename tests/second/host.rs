@@ -83,7 +83,8 @@ pub fn build_words(page: u8, create: bool, mcda: u8, retain: bool, offset: u32, 
     }
     // 128 dwords a block, and the count is zero-based.
     let count = 128 * blocks - 1;
-    let cdw10 = page as u32 | (create as u32) << 8 | (mcda as u32) << 9 | (retain as u32) << 15 | (count & 0xFFFF) << 16;
+    let cdw10 =
+        page as u32 | (create as u32) << 8 | (mcda as u32) << 9 | (retain as u32) << 15 | (count & 0xFFFF) << 16;
     Some([cdw10, count >> 16, 512 * offset, 0, 0])
 }
 
@@ -132,7 +133,11 @@ pub struct Collection {
 #[derive(Clone, Debug, PartialEq, Eq)]
 pub enum Outcome {
     Send(Words),
-    Ended { answer: u8, newer: bool, count: u64 },
+    Ended {
+        answer: u8,
+        newer: bool,
+        count: u64,
+    },
     /// 13, 14, 15, and 6 of a setup: nothing has changed
     Refused(u8),
 }

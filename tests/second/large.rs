@@ -21,7 +21,8 @@ pub fn copies(pair: &mut Pair, random: &mut Random) -> Same<()> {
     let bytes = blocks as usize * BLOCK;
     let spare = random.pick(&[0, 1, 512, 5_000]);
     let (_, record) = pair.fresh(ALL, 0x00AB_CDEF, 1, 2)?;
-    let mut world = World { record, host_store: random.bytes(bytes + spare), controller_store: random.bytes(bytes + spare) };
+    let mut world =
+        World { record, host_store: random.bytes(bytes + spare), controller_store: random.bytes(bytes + spare) };
     let offer = Offer { last: [1, 2, 3, blocks], bytes: random.bytes(bytes), reason: random.bytes(REASON) };
     let past = random.up_to(4);
     let first = random.pick(&[0, 0, 1, 3]);

@@ -1,9 +1,9 @@
 //! The second opinion: an independent telemetry bench for NVMe pages 07h and 08h, and the program that compares the library with it.
 //!
-//! Written from the rules document (document 01), its source documents and the C header file alone, and not from the library's
-//! definitions or code, so that a rule misread there is not misread here in the same way. `rules`, `controller`, `host` and `boundary` are the
-//! bench, as plain as the paper's words. The rest lends the same bytes to the library and to that bench, from a seed, and compares every
-//! answer and every lent byte after every call.
+//! Written from the rules document (document 01), its source documents, docs/DECISIONS.md where they leave a choice, and the C header
+//! file alone, and not from the library's definitions or code, so that a rule misread there is not misread here in the same way.
+//! `rules`, `controller`, `host` and `boundary` are the bench, as plain as the paper's words. The rest lends the same bytes to the
+//! library and to that bench, from a seed, and compares every answer and every lent byte after every call.
 
 mod boundary;
 mod controller;
@@ -143,7 +143,10 @@ impl Session {
     }
 
     fn is_chosen(&self, index: usize) -> bool {
-        self.options.kind.as_deref().is_none_or(|name| name == KINDS[index].name)
+        match &self.options.kind {
+            Some(name) => name == KINDS[index].name,
+            None => true,
+        }
     }
 
     /// One round: each kind's share of cases. The first round has those that run once.
@@ -203,7 +206,8 @@ impl Session {
         let cases: u64 = self.fares.iter().map(|fare| fare.cases).sum();
         println!("{cases} cases in {seconds:.1} s, {:.0} a second", cases as f64 / seconds);
         let run = || self.fares.iter().filter(|fare| fare.cases > 0);
-        let (mut passed, mut failed) = (run().filter(|fare| !fare.failed).count(), run().filter(|fare| fare.failed).count());
+        let (mut passed, mut failed) =
+            (run().filter(|fare| !fare.failed).count(), run().filter(|fare| fare.failed).count());
         if self.options.kind.is_none() && failed == 0 {
             let missing = self.pair.seen.missing();
             missing.iter().for_each(|what| println!("NEVER SEEN: {what}"));

@@ -49,8 +49,7 @@ fn good_parts(random: &mut Random) -> Parts {
     let create = random.chance(70);
     world.host_store = random.bytes(world.host_store.len() + 3 * BLOCK);
     let a3 = 1 + random.up_to(2);
-    let offer =
-        Offer { last: [0, a3, a3, a3], bytes: random.bytes(a3 as usize * BLOCK), reason: random.bytes(REASON) };
+    let offer = Offer { last: [0, a3, a3, a3], bytes: random.bytes(a3 as usize * BLOCK), reason: random.bytes(REASON) };
     let blocks = 1 + random.up_to(2);
     Parts {
         world,
@@ -112,7 +111,8 @@ pub fn commands(pair: &mut Pair, random: &mut Random) -> Same<()> {
         parts.offer.reason.truncate(127);
     }
     if short {
-        parts.buffer = random.pick(&[0, 511, 512 * (parts.count as usize / 128 + 1) - 1]).min(4 * parts.count as usize + 3);
+        parts.buffer =
+            random.pick(&[0, 511, 512 * (parts.count as usize / 128 + 1) - 1]).min(4 * parts.count as usize + 3);
     }
     if page {
         break_page(random, &mut parts);

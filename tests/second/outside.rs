@@ -148,9 +148,8 @@ pub fn collection_rows(pair: &mut Pair, _: &mut Random) -> Same<()> {
     let ran = collect(pair, &mut world, setup, clear_after_header)?;
     hold(ran.1 == 10 && ran.3 == vec![0; 9 * 512], "08h cleared by another host mid-run: the last check gives 10")?;
 
-    let capture_on_08h = |pair: &mut Pair, world: &mut World, _: usize| {
-        pair.capture(world, &candidate([1, 2, 3, 4])).map(|_| ())
-    };
+    let capture_on_08h =
+        |pair: &mut Pair, world: &mut World, _: usize| pair.capture(world, &candidate([1, 2, 3, 4])).map(|_| ());
     let ran = collect(pair, &mut drive(ALL, [1, 2, 3, 4]), Setup { page: 7, ..setup }, capture_on_08h)?;
     hold(ran.1 == 0 && ran.2 == 3, "on 07h, bytes 382 and 383 may change with no host capture")
 }
@@ -235,7 +234,10 @@ fn fields_are_read(pair: &mut Pair, page: u8, header: &[u8]) -> Same<()> {
     let (answer, fields) = pair.check(page, 1, header)?;
     let host = page == 7;
     hold(answer == 0, "the header is good")?;
-    hold(fields[..5] == if host { [7, 1, 0xB1, 1, 0xB2] } else { [8, 2, 0, 1, 0xB2] }, "page, scope, generations, TCDA")?;
+    hold(
+        fields[..5] == if host { [7, 1, 0xB1, 1, 0xB2] } else { [8, 2, 0, 1, 0xB2] },
+        "page, scope, generations, TCDA",
+    )?;
     hold(get_u32(&fields, 8) == 0x0012_3456, "OUI")?;
     let last = [12, 16, 20, 24].map(|at| get_u32(&fields, at));
     let due = if host { [0x0102, 0x0304, 0x0506, 0x0708] } else { [0x010A, 0x020B, 0x030C, 0x040D] };
@@ -275,7 +277,10 @@ pub fn mcda_table(pair: &mut Pair, _: &mut Random) -> Same<()> {
         let mut world = drive(ALL, [0; 4]);
         let (answer, _) = pair.command(&mut world, &candidate([1, 2, 3, 4]), words, &mut vec![0; 512])?;
         let last = generate::last_of(&world.record, at::HOST_LAST);
-        hold(answer == stored.is_none() as u8 && last == stored.unwrap_or([0; 4]), &format!("MCDA {mcda:03b}b: {stored:?}"))?;
+        hold(
+            answer == stored.is_none() as u8 && last == stored.unwrap_or([0; 4]),
+            &format!("MCDA {mcda:03b}b: {stored:?}"),
+        )?;
         // "If the MCDAS bit is cleared to '0' [..], then this field shall be ignored by the controller."
         let mut world = drive(ALL & !MCDAS, [0; 4]);
         let (answer, _) = pair.command(&mut world, &candidate([1, 2, 3, 4]), words, &mut vec![0; 512])?;
@@ -287,12 +292,8 @@ pub fn mcda_table(pair: &mut Pair, _: &mut Random) -> Same<()> {
 
 /// Documents 000 and 001, "The size of the log page is variable": which area's last block sizes the page, by DA4S and ETDAS.
 pub fn size_table(pair: &mut Pair, _: &mut Random) -> Same<()> {
-    let rows: [(u8, LastBlocks, u32); 4] = [
-        (0, [1, 2, 3, 0], 3),
-        (ETDAS, [1, 2, 3, 0], 3),
-        (DA4S | ETDAS, [1, 2, 3, 6], 6),
-        (DA4S, [1, 2, 3, 6], 3),
-    ];
+    let rows: [(u8, LastBlocks, u32); 4] =
+        [(0, [1, 2, 3, 0], 3), (ETDAS, [1, 2, 3, 0], 3), (DA4S | ETDAS, [1, 2, 3, 6], 6), (DA4S, [1, 2, 3, 6], 3)];
     for (caps, last, sized_by) in rows {
         let mut world = drive(EXTENDED | TELEMETRY | caps, last);
         generate::put_last(&mut world.record, at::CONTROLLER_LAST, last);

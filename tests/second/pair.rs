@@ -59,6 +59,9 @@ impl LentWorld {
     }
 }
 
+/// Where a state has its capabilities.
+const STATE_CAPS: usize = 4;
+
 /// Bytes that stand in what a call must write, so that a byte left out is seen.
 const STALE: u8 = 0x5A;
 
@@ -82,12 +85,7 @@ fn hex_words(words: &[u32]) -> String {
 }
 
 /// The verdict on a call: equal answers, and each lent part as the second opinion has it.
-fn verify(
-    answers: (u32, u32),
-    parts: &[(&str, &Lent, &[u8])],
-    call: &str,
-    inputs: impl Fn() -> String,
-) -> Same<()> {
+fn verify(answers: (u32, u32), parts: &[(&str, &Lent, &[u8])], call: &str, inputs: impl Fn() -> String) -> Same<()> {
     let (library, opinion) = answers;
     let problem = if library == opinion {
         parts.iter().find_map(|(name, lent, expected)| lent.problem(name, expected))
@@ -171,7 +169,13 @@ impl Pair {
         Ok((want, wanted))
     }
 
-    pub fn fresh(&mut self, caps: u8, oui: u32, host_scope: u8, controller_scope: u8) -> Same<(u8, [u8; RECORD_BYTES])> {
+    pub fn fresh(
+        &mut self,
+        caps: u8,
+        oui: u32,
+        host_scope: u8,
+        controller_scope: u8,
+    ) -> Same<(u8, [u8; RECORD_BYTES])> {
         let mut lent = Pair::lend_struct(&[STALE; RECORD_BYTES]);
         let got = library::fresh(caps, oui, host_scope, controller_scope, &mut lent);
         let mut wanted = [STALE; RECORD_BYTES];
@@ -189,13 +193,24 @@ impl Pair {
         let got = library::setup(arguments, &mut state, &mut next);
         let (mut state_wanted, mut next_wanted) = ([STALE; STATE_BYTES], [STALE; NEXT_BYTES]);
         let want = boundary::setup(arguments, &mut state_wanted, &mut next_wanted);
+        if arguments.caps > 31 {
+            // The header file leaves open what stands in `caps` of the ended state then. It says that a step takes the state, so it
+            // must be one of five bits.
+            state_wanted[STATE_CAPS] = state.byte(STATE_CAPS) & 31;
+        }
         let parts: [(&str, &Lent, &[u8]); 2] = [("next", &next, &next_wanted), ("state", &state, &state_wanted)];
         verify((got.into(), want.into()), &parts, "setup", || format!("  {arguments:?}"))?;
         self.note_next(Function::Setup, &next_wanted);
         Ok((state_wanted, next_wanted))
     }
 
-    pub fn step(&mut self, state: &mut [u8; STATE_BYTES], ok: u8, data: &[u8], copy: &mut Vec<u8>) -> Same<[u8; NEXT_BYTES]> {
+    pub fn step(
+        &mut self,
+        state: &mut [u8; STATE_BYTES],
+        ok: u8,
+        data: &[u8],
+        copy: &mut Vec<u8>,
+    ) -> Same<[u8; NEXT_BYTES]> {
         let mut lent_state = Pair::lend_struct(state);
         let mut lent_data = self.lend(data);
         let mut lent_copy = self.lend(copy);

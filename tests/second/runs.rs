@@ -84,7 +84,20 @@ fn begin(pair: &mut Pair, random: &mut Random) -> Same<Run> {
     let honest = random.chance(75);
     let busy = random.pick(&[0, 5, 20, 50, 90]);
     let area_at_check = Vec::new();
-    Ok(Run { world, setup, state, next, copy, honest, busy, sent: 0, captures: 0, captures_since_check: 0, area_at_check, chunks: 0 })
+    Ok(Run {
+        world,
+        setup,
+        state,
+        next,
+        copy,
+        honest,
+        busy,
+        sent: 0,
+        captures: 0,
+        captures_since_check: 0,
+        area_at_check,
+        chunks: 0,
+    })
 }
 
 /// The last block of the wanted area as the drive has it.
@@ -267,7 +280,10 @@ impl Run {
             WITHDRAWN | NOTHING => controller_page,
             _ => false,
         };
-        claim(allowed, "an honest drive's run ends with 0, 8, 10 or 11, and with 9 only if captures use up the attempts")?;
+        claim(
+            allowed,
+            "an honest drive's run ends with 0, 8, 10 or 11, and with 9 only if captures use up the attempts",
+        )?;
         if answer == SUCCESS {
             let area = self.copy.get(..self.area_at_check.len());
             claim(area == Some(&self.area_at_check[..]), "the copy is the wanted area at the last check")?;

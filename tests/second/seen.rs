@@ -48,7 +48,10 @@ impl Seen {
     }
 
     pub fn print(&self) {
-        println!("answers seen (class: its number; status: 3 is no status; sent: a command to send; newer: {}):", self.newer);
+        println!(
+            "answers seen (class: its number; status: 3 is no status; sent: a command to send; newer: {}):",
+            self.newer
+        );
         for (index, (name, _)) in LISTED.iter().enumerate() {
             let mut line = format!("  {name:<8}");
             if self.sent[index] > 0 {

@@ -1,10 +1,10 @@
 //! Single calls on random inputs.
 
-use crate::boundary::Setup;
+use crate::boundary::{Setup, REFUSED};
 use crate::generate::{self, DA4S, ETDAS, EXTENDED, TELEMETRY};
 use crate::pair::{Difference, Pair, Same};
 use crate::random::Random;
-use crate::rules::{CONTROLLER_PAGE, HOST_PAGE};
+use crate::rules::{ALREADY_ENDED, CONTROLLER_PAGE, HOST_PAGE};
 
 /// All identifiers, and the counts that document 01 gives.
 pub fn classes(pair: &mut Pair, _: &mut Random) -> Same<()> {
@@ -140,17 +140,28 @@ pub fn stretch_setup(random: &mut Random, setup: &mut Setup) {
         5 => setup.chunk = random.pick(&[0, 1, 8_192, 8_193, u32::MAX]),
         6 => setup.attempts = random.pick(&[0, 1, 256, 257, u32::MAX]),
         7 => setup.room = random.pick(&[0, 1, 256, 511, 513, 536_870_911, 536_870_912]),
-        _ => setup.room = random.pick(&[536_870_913, 536_871_424, 1 << 32, (1 << 32) + 512, 1 << 63, u64::MAX, u64::MAX - 511]),
+        _ => {
+            setup.room =
+                random.pick(&[536_870_913, 536_871_424, 1 << 32, (1 << 32) + 512, 1 << 63, u64::MAX, u64::MAX - 511])
+        }
     }
 }
 
+/// A good setup, then one at or over a limit. A refused one gives an ended state: a step from it is 14.
 pub fn setups(pair: &mut Pair, random: &mut Random) -> Same<()> {
     let mut setup = good_setup(random);
     pair.setup(setup)?;
     for _ in 0..random.pick(&[1, 1, 1, 2, 3]) {
         stretch_setup(random, &mut setup);
     }
-    pair.setup(setup).map(|_| ())
+    let (mut state, next) = pair.setup(setup)?;
+    if next[0] == REFUSED {
+        let next = pair.step(&mut state, 0, &[], &mut Vec::new())?;
+        if next[1] != ALREADY_ENDED {
+            return Err(Difference(format!("a step after a refused setup gives {}: {setup:?}", next[1])));
+        }
+    }
+    Ok(())
 }
 
 /// Some commands in a row on one drive, which mostly agrees.
