@@ -176,6 +176,44 @@ fn has_invalid_field(command: &Command, capabilities: Capabilities) -> bool {
         || (command.create && capabilities.mcdas && command.mcda >= 5)
 }
 
+/// Decides a command: the record as it stands before the transfer, a create's capture included, or the refusal. Writes nothing.
+fn judge(
+    record: &Record,
+    host_store: &[u8],
+    controller_store: &[u8],
+    candidate: &Candidate,
+    command: &Command,
+    buffer_bytes: usize,
+) -> Result<Record, (u8, Option<Class>)> {
+    let capabilities = record.capabilities;
+    if disagree(record, host_store, controller_store) {
+        return Err((DISAGREE, None));
+    }
+    if !(command.page == HOST_PAGE || command.page == CONTROLLER_PAGE) || !capabilities.telemetry {
+        return Err((INVALID_LOG_PAGE, Some(class_of(command.page))));
+    }
+    if has_invalid_field(command, capabilities) {
+        return Err((INVALID_FIELD, None));
+    }
+    let mut after = record.clone();
+    if command.create {
+        let m = kept_area(capabilities, command.mcda);
+        if broken(candidate, candidate.last[m - 1], host_store) {
+            return Err((BROKEN_CANDIDATE, None));
+        }
+        after.host_last = trimmed(candidate.last, m, capabilities.da4s);
+        after.host_generation = record.host_generation.wrapping_add(1);
+        after.host_reason = reason_of(candidate);
+    }
+    if command.offset > page_size(capabilities, last_of(&after, command.page)) {
+        return Err((INVALID_FIELD, None));
+    }
+    if (buffer_bytes as u64) < command.length {
+        return Err((SHORT_BUFFER, None));
+    }
+    Ok(after)
+}
+
 /// Answers a command of any five words: its answer, and with answer 2 the identifier's class. A refused one leaves everything as lent:
 /// all is decided before anything is written.
 pub fn command(
@@ -186,40 +224,15 @@ pub fn command(
     words: Words,
     buffer: &mut [u8],
 ) -> (u8, Option<Class>) {
-    let capabilities = record.capabilities;
-    let command = read_words(words, capabilities);
-    if disagree(record, host_store, controller_store) {
-        return (DISAGREE, None);
-    }
-    if !(command.page == HOST_PAGE || command.page == CONTROLLER_PAGE) || !capabilities.telemetry {
-        return (INVALID_LOG_PAGE, Some(class_of(command.page)));
-    }
-    if has_invalid_field(&command, capabilities) {
-        return (INVALID_FIELD, None);
-    }
-    let mut after = record.clone();
-    let mut kept = 0;
+    let command = read_words(words, record.capabilities);
+    *record = match judge(record, host_store, controller_store, candidate, &command, buffer.len()) {
+        Ok(after) => after,
+        Err(refusal) => return refusal,
+    };
     if command.create {
-        let m = kept_area(capabilities, command.mcda);
-        kept = candidate.last[m - 1];
-        if broken(candidate, kept, host_store) {
-            return (BROKEN_CANDIDATE, None);
-        }
-        after.host_last = trimmed(candidate.last, m, capabilities.da4s);
-        after.host_generation = record.host_generation.wrapping_add(1);
-        after.host_reason = reason_of(candidate);
+        let m = kept_area(record.capabilities, command.mcda);
+        store_blocks(host_store, candidate, candidate.last[m - 1]);
     }
-    let last = if command.page == HOST_PAGE { after.host_last } else { after.controller_last };
-    if command.offset > page_size(capabilities, last) {
-        return (INVALID_FIELD, None);
-    }
-    if (buffer.len() as u64) < command.length {
-        return (SHORT_BUFFER, None);
-    }
-    if command.create {
-        store_blocks(host_store, candidate, kept);
-    }
-    *record = after;
     let store = if command.page == HOST_PAGE { &*host_store } else { controller_store };
     transfer(record, command.page, store, command.offset, &mut buffer[..command.length as usize]);
     if command.page == CONTROLLER_PAGE && !command.retain {
@@ -230,10 +243,17 @@ pub fn command(
     (SUCCESS, None)
 }
 
+fn last_of(record: &Record, page: u8) -> LastBlocks {
+    if page == HOST_PAGE {
+        record.host_last
+    } else {
+        record.controller_last
+    }
+}
+
 /// Puts a page's bytes from `offset` on into `target`, block by block: block 0 is the header, then come the store's, then zeros.
 fn transfer(record: &Record, page: u8, store: &[u8], offset: u64, target: &mut [u8]) {
-    let last = if page == HOST_PAGE { record.host_last } else { record.controller_last };
-    let blocks = page_blocks(record.capabilities, last) as u64;
+    let blocks = page_blocks(record.capabilities, last_of(record, page)) as u64;
     let first = offset / 512;
     for (index, place) in target.chunks_exact_mut(BLOCK).enumerate() {
         let block = first + index as u64;
@@ -251,7 +271,7 @@ fn transfer(record: &Record, page: u8, store: &[u8], offset: u64, target: &mut [
 /// The header of a page, byte by byte as document 01's layout has it.
 pub fn header(record: &Record, page: u8) -> [u8; BLOCK] {
     let host = page == HOST_PAGE;
-    let last = if host { record.host_last } else { record.controller_last };
+    let last = last_of(record, page);
     let mut bytes = [0; BLOCK];
     bytes[0] = page;
     bytes[5..8].copy_from_slice(&record.oui.to_le_bytes()[..3]);

@@ -73,13 +73,15 @@ const KINDS: [Kind; 33] = [
     Kind { name: "runs", share: 400, case: runs::runs },
 ];
 
-const USAGE: &str = "usage: second [--seed N] [--seconds N | --cases N] [--kind NAME [--case N]] [--keep-going]
+const USAGE: &str =
+    "usage: second [--seed N] [--seconds N | --cases N] [--kind NAME [--case N]] [--keep-going] [--trace]
   --seed N       another stream of cases (default 1)
   --seconds N    for so many seconds (default: a fixed number of cases, a few seconds' worth)
   --cases N      until there were N cases of all kinds together
   --kind NAME    this kind alone
   --case N       this case of it alone
-  --keep-going   go on with the other kinds after a difference";
+  --keep-going   go on with the other kinds after a difference
+  --trace        name each case before it runs, to find one in which the library crashes or hangs";
 
 struct Options {
     seed: u64,
@@ -88,10 +90,12 @@ struct Options {
     kind: Option<String>,
     case: Option<u64>,
     keep_going: bool,
+    trace: bool,
 }
 
 fn options() -> Result<Options, String> {
-    let mut options = Options { seed: 1, seconds: None, cases: None, kind: None, case: None, keep_going: false };
+    let mut options =
+        Options { seed: 1, seconds: None, cases: None, kind: None, case: None, keep_going: false, trace: false };
     let mut arguments = std::env::args().skip(1);
     while let Some(argument) = arguments.next() {
         let mut value = || arguments.next().ok_or(format!("{argument} needs a value"));
@@ -103,11 +107,15 @@ fn options() -> Result<Options, String> {
             "--kind" => options.kind = Some(value()?),
             "--case" => options.case = Some(number(value()?)?),
             "--keep-going" => options.keep_going = true,
+            "--trace" => options.trace = true,
             "--help" => return Err("what can be asked for:".to_string()),
             _ => return Err(format!("{argument} is not an option")),
         }
     }
-    Ok(options)
+    match &options.kind {
+        Some(name) if KINDS.iter().all(|kind| kind.name != name) => Err(format!("there is no kind '{name}'")),
+        _ => Ok(options),
+    }
 }
 
 /// How a kind fares.
@@ -127,6 +135,9 @@ struct Session {
 impl Session {
     fn one_case(&mut self, index: usize, case: u64) {
         let kind = &KINDS[index];
+        if self.options.trace {
+            println!("{} case {case}", kind.name);
+        }
         let mut random = Random::of_case(self.options.seed, kind.name, case);
         let result = (kind.case)(&mut self.pair, &mut random);
         self.fares[index].cases += 1;
@@ -166,12 +177,17 @@ impl Session {
         }
     }
 
+    fn cases(&self) -> u64 {
+        self.fares.iter().map(|fare| fare.cases).sum()
+    }
+
     fn is_done(&self, rounds: u64) -> bool {
         if let Some(seconds) = self.options.seconds {
             return self.begun.elapsed() >= Duration::from_secs(seconds);
         }
         match self.options.cases {
-            Some(cases) => self.fares.iter().map(|fare| fare.cases).sum::<u64>() >= cases,
+            // Ten rounds have a case of every kind but those that run once, so a chosen one of these ends too.
+            Some(cases) => self.cases() >= cases || rounds >= 10 * cases,
             None => rounds >= 100,
         }
     }
@@ -203,7 +219,7 @@ impl Session {
             println!("  {:<24} {:>9}{}", KINDS[index].name, fare.cases, if fare.failed { "  FAILED" } else { "" });
         }
         self.pair.seen.print();
-        let cases: u64 = self.fares.iter().map(|fare| fare.cases).sum();
+        let cases = self.cases();
         println!("{cases} cases in {seconds:.1} s, {:.0} a second", cases as f64 / seconds);
         let run = || self.fares.iter().filter(|fare| fare.cases > 0);
         let (mut passed, mut failed) =
