@@ -63,7 +63,8 @@ struct bumbazeel_fields {
     uint8_t reason[128];           /*  28 */
 };
 
-/* A collection's state. 56 bytes. Lend it back as it was given; one that no setup or step can have given gets 13. */
+/* A collection's state. 56 bytes. Lend it back as it was given. One that is damaged (`phase` over 5, `create` over 1, `caps` over 31, `zero`
+ * not zero, or `at` not zero in a phase other than 1) gets 13, and so does one whose numbers no setup can lead to. */
 struct bumbazeel_state {
     uint8_t phase;      /*  0: what is awaited: 0 first header, 1 chunk, 2 closing header, 3 closing header after a refused chunk,
                                4 acknowledgement, 5 nothing (ended) */
@@ -121,7 +122,8 @@ uint8_t bumbazeel_check(uint8_t page, uint8_t da4s, const uint8_t *header, size_
 uint8_t bumbazeel_words(uint8_t page, uint8_t create, uint8_t mcda, uint8_t rae, uint32_t offset, uint32_t blocks, uint32_t words[5]);
 
 /* Begins a collection into a copy of `room` bytes. Answers next->kind: BUMBAZEEL_SEND with the first command, or BUMBAZEEL_REFUSED
- * with 13 or 6 and a state that has ended. *state and *next are written in both cases. */
+ * with 13 or 6 and a state that has ended. *state and *next are written in both cases. `caps` over 31 is a bad setup, and none of its
+ * bits is in the state. */
 uint8_t bumbazeel_setup(uint8_t page, uint8_t create, uint8_t area, uint8_t caps, uint32_t chunk, uint32_t attempts, size_t room,
                         struct bumbazeel_state *state, struct bumbazeel_next *next);
 

@@ -253,7 +253,8 @@ pub fn setup(arguments: Setup, state: &mut [u8; STATE_BYTES], next: &mut [u8; NE
         room: arguments.room,
     });
     if arguments.caps > 31 {
-        // No controller has such capabilities: a bad setup, which ends before it has sent anything.
+        // No controller has such capabilities: a bad setup, which ends before it has sent anything, and its state has none.
+        collection.plan.capabilities = capabilities_of(0);
         collection.awaited = Awaited::Nothing;
         collection.count = 0;
         outcome = Outcome::Refused(BAD_SETUP);

@@ -60,10 +60,6 @@ impl Lent {
         &self.all()[self.start..self.start + self.length]
     }
 
-    pub fn byte(&self, at: usize) -> u8 {
-        self.bytes()[at]
-    }
-
     /// What is wrong with these bytes after a call, if they are to be `expected`.
     pub fn problem(&self, name: &str, expected: &[u8]) -> Option<String> {
         let (before, rest) = self.all().split_at(self.start);

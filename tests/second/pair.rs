@@ -60,7 +60,6 @@ impl LentWorld {
 }
 
 /// Where a state has its capabilities.
-const STATE_CAPS: usize = 4;
 
 /// Bytes that stand in what a call must write, so that a byte left out is seen.
 const STALE: u8 = 0x5A;
@@ -193,11 +192,6 @@ impl Pair {
         let got = library::setup(arguments, &mut state, &mut next);
         let (mut state_wanted, mut next_wanted) = ([STALE; STATE_BYTES], [STALE; NEXT_BYTES]);
         let want = boundary::setup(arguments, &mut state_wanted, &mut next_wanted);
-        if arguments.caps > 31 {
-            // The header file leaves open what stands in `caps` of the ended state then. It says that a step takes the state, so it
-            // must be one of five bits.
-            state_wanted[STATE_CAPS] = state.byte(STATE_CAPS) & 31;
-        }
         let parts: [(&str, &Lent, &[u8]); 2] = [("next", &next, &next_wanted), ("state", &state, &state_wanted)];
         verify((got.into(), want.into()), &parts, "setup", || format!("  {arguments:?}"))?;
         self.note_next(Function::Setup, &next_wanted);
