@@ -82,10 +82,8 @@ demo: build/bumbazeel
 bench: build/bench_serving
 	@build/bench_serving
 
-build/bench_serving: bench/serving.c crates/rig/src/lib.rt crates/controller/src/lib.rt crates/serving/src/lib.rt crates/parts/src/lib.rt
-	@mkdir -p build
-	rt staticlib rig
-	$(CC) $(CFLAGS) -o $@ bench/serving.c target/staticlib/librig.a
+build/bench_serving: bench/serving.c include/bumbazeel.h build/libbumbazeel.a
+	$(CC) $(CFLAGS) -Iinclude -o $@ bench/serving.c build/libbumbazeel.a
 
 clean:
 	rm -rf build

@@ -4,15 +4,25 @@
  * two ways take turns, and the best of the turns counts. The bytes are compared, and so is the cost of one block from a small store
  * with that from a store of 64 MiB: it must not grow with the store. */
 #define _POSIX_C_SOURCE 199309L
-#include <stdint.h>
+#include "bumbazeel.h"
+
 #include <stdio.h>
 #include <stdlib.h>
 #include <string.h>
 #include <time.h>
 
-/* a slice crosses as a pointer and a length */
-extern uint8_t bumbazeel_rig_command(uint32_t blocks, uint32_t cdw10, uint32_t cdw11, uint32_t cdw12, uint8_t *store, size_t store_bytes,
-                                     uint8_t *buf, size_t buf_bytes);
+/* a drive with one host page, all of its store being area 4 */
+static struct bumbazeel_record drive(size_t store_bytes) {
+    struct bumbazeel_record record;
+    if (bumbazeel_fresh(BUMBAZEEL_EXTENDED | BUMBAZEEL_TELEMETRY | BUMBAZEEL_DA4S | BUMBAZEEL_ETDAS | BUMBAZEEL_MCDAS, 0, 1, 1, &record)) {
+        fputs("no fresh record\n", stderr);
+        exit(1);
+    }
+    for (int area = 0; area < 3; area++)
+        record.host_last[area] = 1;
+    record.host_last[3] = (uint32_t)(store_bytes / 512);
+    return record;
+}
 
 static double now(void) {
     struct timespec t;
@@ -29,7 +39,10 @@ struct best {
 
 static struct best measure(size_t bytes, size_t store_bytes, unsigned turns, unsigned calls) {
     uint8_t *store = malloc(store_bytes), *buf = malloc(bytes), *want = malloc(bytes);
+    struct bumbazeel_record record = drive(store_bytes);
     uint32_t dwords = (uint32_t)(bytes / 4 - 1);
+    /* the builder's commands end at 8,192 blocks, and 64 MiB are more */
+    const uint32_t words[5] = {0x8007u | (dwords & 0xffffu) << 16, dwords >> 16, 512, 0, 0}, last[4] = {0, 0, 0, 0};
     struct best best = {1e9, 1e9};
     if (!store || !buf || !want) {
         fputs("out of memory\n", stderr);
@@ -40,7 +53,7 @@ static struct best measure(size_t bytes, size_t store_bytes, unsigned turns, uns
     memset(buf, 1, bytes);
     memset(want, 2, bytes);
     for (unsigned t = 0; t < turns; t++) {
-        uint8_t answer = 0;
+        uint8_t answer = 0, page_class;
         double served = 0, copied = 0;
         for (unsigned way = t; way < t + 2; way++) { /* the one that comes second finds the store in the cache: they change places */
             double start = now();
@@ -49,8 +62,7 @@ static struct best measure(size_t bytes, size_t store_bytes, unsigned turns, uns
                     copy(want, store, bytes);
             else
                 for (unsigned c = 0; c < calls; c++)
-                    answer |= bumbazeel_rig_command((uint32_t)(store_bytes / 512), 0x8007u | (dwords & 0xffffu) << 16, dwords >> 16, 512,
-                                                    store, store_bytes, buf, bytes);
+                    answer |= bumbazeel_command(&record, store, store_bytes, NULL, 0, last, NULL, 0, NULL, 0, words, buf, bytes, &page_class);
             *(way % 2 ? &copied : &served) = (now() - start) / calls;
         }
         if (answer || memcmp(buf, want, bytes)) {

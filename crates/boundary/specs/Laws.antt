@@ -4,7 +4,7 @@
 use Prim.Native.Nat.{ℕ, _<_}
 use mathlib.Core.Path.{_≡_, refl, sym, ap, _∙_}
 use mathlib.Core.List.{List}
-use mathlib.Core.Bool.{Bool, true, false, not, _&&_}
+use mathlib.Core.Bool.{Bool, true}
 use native.Mathlib.Omega.{arith}
 use lib.ListN.{length}
 use lib.Dec.{eqb}
@@ -13,22 +13,19 @@ use Rattle.basics.specs.Choice.{pick-cases}
 use Rattle.basics.specs.Tests.{holds, each, by-test, clash, and-left}
 use Rattle.answers.specs.Answers.{success, badSetup}
 use Rattle.words.specs.declared.Words.{Words}
-use Rattle.course.specs.declared.Plan.{Plan}
 use Rattle.course.specs.declared.Seen.{Seen}
 use Rattle.course.specs.declared.Move.{Move}
 use Rattle.course.specs.declared.Move.the-variants.{Fail, Open, More, Skip, Acknowledge, Done}
 use Rattle.course.specs.Course.{planTests, setupAnswer}
 use Rattle.collection.specs.declared.Collection.{Collection}
-use Rattle.collection.specs.declared.Next.the-variants.{Refused}
 use Rattle.collection.specs.declared.Stepped.{Stepped}
-use Rattle.collection.specs.Collection.{refusalOf, actOf, lookOf, moveOf, setupOf, stepOf}
-use Rattle.collection.specs.Laws.{same-or-not}
-use Rattle.collection.specs.Steps.{setup-refused, refused-copy, taken-step}
+use Rattle.collection.specs.Collection.{refusalOf, actOf, lookOf, moveOf, stepOf}
+use Rattle.collection.specs.Steps.{refused-copy, taken-step}
 use Rattle.controller.specs.Controller.{World, world, Candidate, Outcome, commandOf, captureOf}
 use Rattle.controller.specs.Laws.{refusal-changes-nothing, capture-refusal-changes-nothing}
-use Rattle.layouts.specs.Layouts.{mostCaps, capsOf, recordBytes, recordAt, recordSound, stateBytes, stateAt, stateSound, refusal}
+use Rattle.layouts.specs.Layouts.{mostCaps, capsOf, recordAt, recordSound, stateAt, stateSound, refusal}
 use Rattle.layouts.specs.Back.{record-sound, state-sound}
-use Rattle.boundary.specs.Boundary.{kindOf, planOf, stateAfter, stepAt, recordAfter, commandAt, captureAt}
+use Rattle.boundary.specs.Boundary.{kindOf, planOf, stepAt, recordAfter, commandAt, captureAt}
 use Rattle.boundary.specs.Steps.{kept-record}
 
 -- ---- a command and a capture

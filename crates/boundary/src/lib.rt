@@ -250,7 +250,7 @@ pub extern "C" fn bumbazeel_capture(
     if !layouts::record_sound(&lent) {
         return answers::DISAGREE;
     }
-    let x = controller::capture(
+    let taken = controller::capture(
         layouts::read_record(&lent),
         host_store,
         controller_store,
@@ -258,11 +258,11 @@ pub extern "C" fn bumbazeel_capture(
         bytes,
         reason,
     );
-    let answer = x.answer;
+    let answer = taken.answer;
     if answer != answers::SUCCESS {
         return answer;
     }
-    let after = x.drive;
+    let after = taken.drive;
     *drive = layouts::write_record(after);
     answer
 }

@@ -15,11 +15,10 @@ use Rattle.basics.specs.Numbers.{bits, bytesOf, valueOf, valueAt, value-back}
 use Rattle.basics.specs.Tests.{holds, each, by-test}
 use Rattle.pages.specs.declared.Caps.{Caps}
 use Rattle.records.specs.declared.Record.{Record}
-use Rattle.records.specs.Back.{Sized}
 use Rattle.course.specs.declared.Phase.{Phase}
 use Rattle.course.specs.declared.Phase.the-variants.{First, Chunk, Close, CloseRefused, Ack, Ended}
 use Rattle.collection.specs.declared.Collection.{Collection}
-use Rattle.layouts.specs.Layouts.{mostCaps, capsByte, capBit, capsOf, lastBytes, lastAt, reasonAt, recordMarks, recordFront, recordBytes, recordAt, recordSound, phaseByte, chunkStart, phaseOf, stateMarks, stateBytes, stateAt, stateSound}
+use Rattle.layouts.specs.Layouts.{mostCaps, capsByte, capBit, capsOf, lastBytes, lastAt, reasonAt, recordMarks, recordFront, recordBytes, recordAt, recordSound, phaseByte, chunkStart, phaseOf, stateBytes, stateAt, stateSound}
 
 -- ---- flags and capabilities
 

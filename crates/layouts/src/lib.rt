@@ -100,8 +100,9 @@ fn put_last(out: &mut [u8], at: usize, a: [u32; 4])
     parts::put(&b, out, at);
 }
 
+// The contract says the array's length too, which whoever puts a reason needs.
 fn put_reason(out: &mut [u8], at: usize, reason: [u8; 128])
-    ensures { λ _. ⌜ now (out .exit) ≡ putAt (now (out .entry)) at reason ⌝ }
+    ensures { λ _. ⌜ (now (out .exit) ≡ putAt (now (out .entry)) at reason) × (length reason ≡ 128) ⌝ }
 {
     parts::put(&reason, out, at);
 }

@@ -1,63 +1,72 @@
-use Rattle.boundary.specs.Boundary.{wordsOf}
-use Rattle.controller.specs.Controller.{candidate}
-use Rattle.boundary.specs.Steps.{command-damaged, command-refused, command-done}
+-- `boundary::bumbazeel_command` meets its contract: a damaged record is refused, a refused command writes no record, and a success writes the one that it leaves.
+-- Assumes nothing.
 use borrow.Author.Needs.{needs}
+use Rattle.controller.specs.Controller.{candidate}
+use Rattle.boundary.specs.Boundary.{wordsOf}
+use Rattle.boundary.specs.Steps.{command-damaged, command-refused, command-done}
 use Rattle.boundary.proofs.bumbazeel_command.Statement.{statement}
 use Rattle.boundary.proofs.bumbazeel_command.Tie as tie
-use Rattle.boundary.proofs.bumbazeel_command.Reads as reads
-use Rattle.boundary.proofs.bumbazeel_command.Lts as lts
-use Rattle.controller.proofs.command.Reads as command-reads
-use Rattle.layouts.proofs.read_record.Reads as read-record-reads
-use Rattle.layouts.proofs.record_sound.Reads as record-sound-reads
-use Rattle.layouts.proofs.write_record.Reads as write-record-reads
 
--- src/lib.rt:185:9
 record-sound-requires : tie.Need-record-sound-requires
 record-sound-requires c κs = search needs
 
--- src/lib.rt:187:9
 returns : tie.Need-returns
-returns c = let a = c .before .before .before .before .before .before .before .before .before .args in command-damaged (a .drive .now) (a .host-store .now) (a .controller-store .now) (candidate (a .last .now) (a .bytes .now) (a .reason .now)) (wordsOf (a .words .now)) (a .buffer .now) (c .before .record-sound .ensures) (c .if1 .taken)
+returns c =
+    let back9 = c .before .before .before .before .before .before .before .before .before in
+    let a = back9 .args in
+    command-damaged (a .drive .now) (a .host-store .now) (a .controller-store .now)
+    (candidate (a .last .now) (a .bytes .now) (a .reason .now)) (wordsOf (a .words .now)) (a .buffer .now)
+    (c .before .record-sound .ensures) (c .if1 .taken)
 
--- src/lib.rt:190:9
 read-record-requires : tie.Need-read-record-requires
 read-record-requires c κs = search needs
 
--- src/lib.rt:196:9
 words-of-requires : tie.Need-words-of-requires
 words-of-requires c κs = search needs
 
--- src/lib.rt:189:9
 command-requires : tie.Need-command-requires
 command-requires c κs = search needs
 
--- src/lib.rt:202:9
 same-length : tie.Need-same-length
 same-length c = search needs
 
--- src/lib.rt:202:9
 same-length-2 : tie.Need-same-length-2
 same-length-2 c = search needs
 
--- src/lib.rt:202:9
 returns-2 : tie.Need-returns-2
-returns-2 c = let a = c .before .before .before .before .before .before .before .before .before .before .before .before .before .before .before .before .before .before .before .before .before .before .args in command-refused (a .drive .now) (a .host-store .now) (a .controller-store .now) (candidate (a .last .now) (a .bytes .now) (a .reason .now)) (wordsOf (a .words .now)) (a .buffer .now) (c .before .before .before .before .before .before .before .before .before .before .before .before .before .before .record-sound .ensures) (c .before .before .before .before .before .before .before .before .before .before .before .before .before .if1 .left) (c .before .before .before .before .before .before .before .before .before .before .before .read-record .ensures) (c .before .before .before .before .before .before .before .words-of .ensures) (c .before .before .before .before .before .command .ensures) (c .if2 .taken)
+returns-2 c =
+    let back5 = c .before .before .before .before .before in
+    let back7 = back5 .before .before in
+    let back11 = back7 .before .before .before .before in
+    let back13 = back11 .before .before in
+    let back14 = back13 .before in
+    let back22 = back14 .before .before .before .before .before .before .before .before in
+    let a = back22 .args in
+    command-refused (a .drive .now) (a .host-store .now) (a .controller-store .now)
+    (candidate (a .last .now) (a .bytes .now) (a .reason .now)) (wordsOf (a .words .now)) (a .buffer .now) (back14 .record-sound .ensures)
+    (back13 .if1 .left) (back11 .read-record .ensures) (back7 .words-of .ensures) (back5 .command .ensures) (c .if2 .taken)
 
--- src/lib.rt:205:14
 write-record-requires : tie.Need-write-record-requires
 write-record-requires c κs = search needs
 
--- src/lib.rt:170:1
 same-length-3 : tie.Need-same-length-3
 same-length-3 c = search needs
 
--- src/lib.rt:170:1
 same-length-4 : tie.Need-same-length-4
 same-length-4 c = search needs
 
--- src/lib.rt:170:1
 returns-3 : tie.Need-returns-3
-returns-3 c = let a = c .before .before .before .before .before .before .before .before .before .before .before .before .before .before .before .before .before .before .before .before .before .before .before .before .args in command-done (a .drive .now) (a .host-store .now) (a .controller-store .now) (candidate (a .last .now) (a .bytes .now) (a .reason .now)) (wordsOf (a .words .now)) (a .buffer .now) (c .before .before .before .before .before .before .before .before .before .before .before .before .before .before .before .before .record-sound .ensures) (c .before .before .before .before .before .before .before .before .before .before .before .before .before .before .before .if1 .left) (c .before .before .before .before .before .before .before .before .before .before .before .before .before .read-record .ensures) (c .before .before .before .before .before .before .before .before .before .words-of .ensures) (c .before .before .before .before .before .before .before .command .ensures) (c .before .before .if2 .left) (c .write-record .ensures)
+returns-3 c =
+    let back7 = c .before .before .before .before .before .before .before in
+    let back9 = back7 .before .before in
+    let back13 = back9 .before .before .before .before in
+    let back15 = back13 .before .before in
+    let back16 = back15 .before in
+    let back24 = back16 .before .before .before .before .before .before .before .before in
+    let a = back24 .args in
+    command-done (a .drive .now) (a .host-store .now) (a .controller-store .now) (candidate (a .last .now) (a .bytes .now) (a .reason .now))
+    (wordsOf (a .words .now)) (a .buffer .now) (back16 .record-sound .ensures) (back15 .if1 .left) (back13 .read-record .ensures)
+    (back9 .words-of .ensures) (back7 .command .ensures) (c .before .before .if2 .left) (c .write-record .ensures)
 
 pub bumbazeel-command-spec : {M : Type 1} → statement M
 bumbazeel-command-spec =

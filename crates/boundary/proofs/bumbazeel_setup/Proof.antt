@@ -1,42 +1,39 @@
-use Rattle.boundary.specs.Boundary.{flagOf}
-use Rattle.collection.specs.Collection.{setupOf}
-use Rattle.course.specs.declared.Plan.{Plan}
-use Rattle.pages.specs.declared.Caps.{Caps}
+-- `boundary::bumbazeel_setup` meets its contract: the setup of the plan that the arguments say, written.
+-- Assumes nothing.
 use mathlib.Core.Path.{ap, _∙_}
-use Rattle.boundary.specs.Steps.{setup-is}
 use borrow.Author.Needs.{needs}
+use Rattle.collection.specs.Collection.{setupOf}
+use Rattle.pages.specs.declared.Caps.{Caps}
+use Rattle.course.specs.declared.Plan.{Plan}
+use Rattle.boundary.specs.Boundary.{flagOf}
+use Rattle.boundary.specs.Steps.{setup-is}
 use Rattle.boundary.proofs.bumbazeel_setup.Statement.{statement}
 use Rattle.boundary.proofs.bumbazeel_setup.Tie as tie
-use Rattle.boundary.proofs.bumbazeel_setup.Reads as reads
-use Rattle.boundary.proofs.bumbazeel_setup.Lts as lts
-use Rattle.collection.proofs.setup.Reads as setup-reads
-use Rattle.layouts.proofs.read_caps.Reads as read-caps-reads
-use Rattle.layouts.proofs.write_next.Reads as write-next-reads
-use Rattle.layouts.proofs.write_state.Reads as write-state-reads
 
--- src/lib.rt:95:9
 read-caps-requires : tie.Need-read-caps-requires
 read-caps-requires c κs = search needs
 
--- src/lib.rt:96:9
 setup-requires : tie.Need-setup-requires
 setup-requires c κs = search needs
 
--- src/lib.rt:107:14
 write-state-requires : tie.Need-write-state-requires
 write-state-requires c κs = search needs
 
--- src/lib.rt:108:13
 write-next-requires : tie.Need-write-next-requires
 write-next-requires c κs = search needs
 
--- src/lib.rt:109:5
 kind-of-requires : tie.Need-kind-of-requires
 kind-of-requires c κs = search needs
 
--- src/lib.rt:81:1
 returns : tie.Need-returns
-returns c = let a = c .before .before .before .before .before .before .args in setup-is (c .before .before .before .before .setup .ensures ∙ ap (λ (x : Caps). setupOf (record { page = a .page; create = flagOf (a .create); area = a .area; chunk = a .chunk; attempts = a .attempts; room = a .room; caps = x })) (c .before .before .before .before .before .read-caps .ensures)) (c .before .before .write-state .ensures) (c .before .write-next .ensures) (c .kind-of .ensures)
+returns c =
+    let back4 = c .before .before .before .before in
+    let back5 = back4 .before in
+    let back6 = back5 .before in
+    let a = back6 .args in
+    let plan : Caps → Plan = λ x. record { page = a .page; create = flagOf (a .create); area = a .area; chunk = a .chunk; attempts = a .attempts; room = a .room; caps = x } in
+    setup-is (back4 .setup .ensures ∙ ap (λ (x : Caps). setupOf (plan x)) (back5 .read-caps .ensures))
+    (c .before .before .write-state .ensures) (c .before .write-next .ensures) (c .kind-of .ensures)
 
 pub bumbazeel-setup-spec : {M : Type 1} → statement M
 bumbazeel-setup-spec =

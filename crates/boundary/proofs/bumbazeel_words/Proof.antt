@@ -1,20 +1,16 @@
-use Rattle.boundary.specs.Steps.{words-are}
+-- `boundary::bumbazeel_words` meets its contract: the answer of the builder, and its words in order.
+-- Assumes nothing.
 use borrow.Author.Needs.{needs}
+use Rattle.boundary.specs.Steps.{words-are}
 use Rattle.boundary.proofs.bumbazeel_words.Statement.{statement}
 use Rattle.boundary.proofs.bumbazeel_words.Tie as tie
-use Rattle.boundary.proofs.bumbazeel_words.Reads as reads
-use Rattle.boundary.proofs.bumbazeel_words.Lts as lts
-use Rattle.words.proofs.build.Reads as build-reads
 
--- src/lib.rt:74:9
 build-requires : tie.Need-build-requires
 build-requires c κs = search needs
 
--- src/lib.rt:76:14
 words-list-requires : tie.Need-words-list-requires
 words-list-requires c κs = search needs
 
--- src/lib.rt:62:1
 returns : tie.Need-returns
 returns c = words-are (c .before .before .build .ensures) (c .words-list .ensures)
 

@@ -1,51 +1,44 @@
-use Rattle.layouts.specs.Layouts.{stateAt}
+-- `layouts::read_state` meets its contract: each field is read from the bytes that the definition names.
+-- Assumes nothing.
 use borrow.Author.Needs.{needs}
+use Rattle.layouts.specs.Layouts.{stateAt}
 use Rattle.layouts.proofs.read_state.Statement.{statement}
 use Rattle.layouts.proofs.read_state.Tie as tie
-use Rattle.layouts.proofs.read_state.Reads as reads
-use Rattle.layouts.proofs.read_state.Lts as lts
-use Rattle.layouts.proofs.last_at.Reads as last-at-reads
-use Rattle.layouts.proofs.long_at.Reads as long-at-reads
-use Rattle.layouts.proofs.phase_of.Reads as phase-of-reads
-use Rattle.layouts.proofs.plan_at.Reads as plan-at-reads
-use Rattle.layouts.proofs.word_at.Reads as word-at-reads
 
--- src/lib.rt:348:9
 plan-at-requires : tie.Need-plan-at-requires
 plan-at-requires c κs = search needs
 
--- src/lib.rt:349:26
 element-copy-out-phase-of : tie.Need-element-copy-out-phase-of
 element-copy-out-phase-of c = search needs
 
--- src/lib.rt:349:32
 word-at-requires : tie.Need-word-at-requires
 word-at-requires c κs = search needs
 
--- src/lib.rt:349:9
 phase-of-requires : tie.Need-phase-of-requires
 phase-of-requires c κs = search needs
 
--- src/lib.rt:350:9
 last-at-requires : tie.Need-last-at-requires
 last-at-requires c κs = search needs
 
--- src/lib.rt:354:18
 word-at-requires-2 : tie.Need-word-at-requires-2
 word-at-requires-2 c κs = search needs
 
--- src/lib.rt:355:16
 long-at-requires : tie.Need-long-at-requires
 long-at-requires c κs = search needs
 
--- src/lib.rt:356:21
 element-copy-out-t7 : tie.Need-element-copy-out-t7
 element-copy-out-t7 c = search needs
 
--- src/lib.rt:345:1
 returns : tie.Need-returns
 unfolding stateAt
-returns c = rw (c .before .before .before .before .before .before .before .before .before .before .before .plan-at .ensures, c .before .before .before .before .before .before .before .phase-of .ensures, c .before .before .before .before .before .before .before .before .word-at .ensures, c .before .before .before .before .before .last-at .ensures, c .before .before .before .word-at2 .ensures, c .before .long-at .ensures)
+returns c =
+    let back3 = c .before .before .before in
+    let back5 = back3 .before .before in
+    let back7 = back5 .before .before in
+    let back8 = back7 .before in
+    let back11 = back8 .before .before .before in
+    rw
+    (back11 .plan-at .ensures, back7 .phase-of .ensures, back8 .word-at .ensures, back5 .last-at .ensures, back3 .word-at2 .ensures, c .before .long-at .ensures)
 
 pub read-state-spec : {M : Type 1} → statement M
 read-state-spec =

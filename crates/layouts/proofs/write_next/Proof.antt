@@ -1,61 +1,48 @@
+-- `layouts::write_next` meets its contract: each arm gives the definition's parts.
+-- Assumes nothing.
 use mathlib.Core.Path.{_∙_}
-use Rattle.layouts.specs.Layouts.{nextBytes}
 use borrow.Author.Needs.{needs}
+use Rattle.layouts.specs.Layouts.{nextBytes}
 use Rattle.layouts.proofs.write_next.Statement.{statement}
 use Rattle.layouts.proofs.write_next.Tie as tie
-use Rattle.layouts.proofs.write_next.Reads as reads
-use Rattle.layouts.proofs.write_next.Lts as lts
-use Rattle.layouts.proofs.bit.Reads as bit-reads
-use Rattle.layouts.proofs.next_parts.Reads as next-parts-reads
-use Rattle.layouts.proofs.no_words.Reads as no-words-reads
 
--- src/lib.rt:419:20
 enum-known-next : tie.Need-enum-known-next
 enum-known-next c = search needs
 
--- src/lib.rt:419:26
 next-parts-requires : tie.Need-next-parts-requires
 next-parts-requires c κs = search needs
 
--- src/lib.rt:420:21
 enum-known-next-2 : tie.Need-enum-known-next-2
 enum-known-next-2 c = search needs
 
--- src/lib.rt:420:55
 bit-requires : tie.Need-bit-requires
 bit-requires c κs = search needs
 
--- src/lib.rt:420:72
 no-words-requires : tie.Need-no-words-requires
 no-words-requires c κs = search needs
 
--- src/lib.rt:420:27
 next-parts-requires-2 : tie.Need-next-parts-requires-2
 next-parts-requires-2 c κs = search needs
 
--- src/lib.rt:421:23
 enum-known-next-3 : tie.Need-enum-known-next-3
 enum-known-next-3 c = search needs
 
--- src/lib.rt:421:65
 no-words-requires-2 : tie.Need-no-words-requires-2
 no-words-requires-2 c κs = search needs
 
--- src/lib.rt:421:34
 next-parts-requires-3 : tie.Need-next-parts-requires-3
 next-parts-requires-3 c κs = search needs
 
--- src/lib.rt:415:1
 returns : tie.Need-returns
 unfolding nextBytes
 returns c = c .next-parts .ensures ∙ rw (c .before .before .next .given .1)
 
--- src/lib.rt:415:1
 returns-2 : tie.Need-returns-2
 unfolding nextBytes
-returns-2 c = c .next-parts2 .ensures ∙ rw (c .before .before .bit .ensures .0, c .before .no-words .ensures, c .before .before .before .before .next2 .given .1)
+returns-2 c =
+    let back4 = c .before .before .before .before in
+    c .next-parts2 .ensures ∙ rw (c .before .before .bit .ensures .0, c .before .no-words .ensures, back4 .next2 .given .1)
 
--- src/lib.rt:415:1
 returns-3 : tie.Need-returns-3
 unfolding nextBytes
 returns-3 c = c .next-parts3 .ensures ∙ rw (c .before .no-words2 .ensures, c .before .before .before .next3 .given .1)
