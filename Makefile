@@ -2,6 +2,7 @@
 # make install   puts them in place, with header, pkg-config file and man page (PREFIX=/usr/local DESTDIR=)
 # make test      proves every crate from nothing, tries the must-fail edits, runs the programs and the outside comparisons
 # make sanitize  runs the program's tests with the address and undefined-behaviour sanitizers
+# make valgrind  runs the program's tests under valgrind
 # make demo      shows a collection that a capture interrupts
 # make bench     measures serving against memcpy, as ratios in one run
 # make clean     removes build/; what rt has proved stays in target/
@@ -16,7 +17,7 @@ LIBDIR ?= $(PREFIX)/lib
 INCLUDEDIR ?= $(PREFIX)/include
 MANDIR ?= $(PREFIX)/share/man
 
-.PHONY: all install test sanitize demo bench clean
+.PHONY: all install test sanitize valgrind demo bench clean
 .DEFAULT_GOAL := all
 .DELETE_ON_ERROR:
 
@@ -71,10 +72,17 @@ install: all
 test:
 	@tests/run
 
+# The runtime is linked into the program, as clang does by itself: a shared one would have to be loaded before the shim.
+SANITIZERS := -fsanitize=address,undefined -fno-sanitize-recover=all $(if $(findstring clang,$(CC)),,-static-libasan)
+
 sanitize: build/libbumbazeel.a
-	@$(MAKE) --no-print-directory OBJECTS=build/sanitize build/sanitize/bumbazeel \
-		CFLAGS='-O1 -g -fno-omit-frame-pointer -fsanitize=address,undefined -fno-sanitize-recover=all'
-	@BUMBAZEEL=build/sanitize/bumbazeel tests/outside/program
+	@$(MAKE) --no-print-directory OBJECTS=build/sanitize build/sanitize/bumbazeel CFLAGS='-O1 -g -fno-omit-frame-pointer $(SANITIZERS)'
+	@ASAN_OPTIONS=exitcode=99 UBSAN_OPTIONS=exitcode=99 BUMBAZEEL=build/sanitize/bumbazeel tests/outside/program
+	@ASAN_OPTIONS=exitcode=99 UBSAN_OPTIONS=exitcode=99 BUMBAZEEL=build/sanitize/bumbazeel tests/outside/device
+
+valgrind: build/bumbazeel
+	@BUMBAZEEL=tests/valgrind tests/outside/program
+	@BUMBAZEEL=tests/valgrind tests/outside/device
 
 demo: build/bumbazeel
 	@program/demo build/bumbazeel
