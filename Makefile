@@ -3,6 +3,7 @@
 # make test      proves every crate from nothing, tries the must-fail edits, runs the programs and the outside comparisons
 # make sanitize  runs the program's tests with the address and undefined-behaviour sanitizers
 # make valgrind  runs the program's tests under valgrind
+# make fuzz      calls the library with whatever a fuzzer thinks of, for ten minutes (SECONDS=600)
 # make demo      shows a collection that a capture interrupts
 # make bench     measures serving against memcpy, as ratios in one run
 # make clean     removes build/; what rt has proved stays in target/
@@ -17,7 +18,7 @@ LIBDIR ?= $(PREFIX)/lib
 INCLUDEDIR ?= $(PREFIX)/include
 MANDIR ?= $(PREFIX)/share/man
 
-.PHONY: all install test sanitize valgrind demo bench clean
+.PHONY: all install test sanitize valgrind fuzz demo bench clean
 .DEFAULT_GOAL := all
 .DELETE_ON_ERROR:
 
@@ -83,6 +84,20 @@ sanitize: build/libbumbazeel.a
 valgrind: build/bumbazeel
 	@BUMBAZEEL=tests/valgrind tests/outside/program
 	@BUMBAZEEL=tests/valgrind tests/outside/device
+
+# libFuzzer comes with clang. What it finds is in build/fuzz/.
+SECONDS ?= 600
+FUZZER_CC ?= clang
+
+fuzz: build/fuzz/fuzz
+	@mkdir -p build/fuzz/corpus
+	build/fuzz/fuzz -max_total_time=$(SECONDS) -max_len=512 -print_final_stats=1 -artifact_prefix=build/fuzz/ \
+		build/fuzz/corpus tests/fuzz/corpus
+
+build/fuzz/fuzz: tests/fuzz/fuzz.c include/bumbazeel.h build/libbumbazeel.a
+	@mkdir -p $(@D)
+	$(FUZZER_CC) -std=c11 -O1 -g -Wall -Wextra -Iinclude -fsanitize=fuzzer,address,undefined -fno-sanitize-recover=all \
+		-o $@ $< build/libbumbazeel.a
 
 demo: build/bumbazeel
 	@program/demo build/bumbazeel

@@ -1,0 +1,658 @@
+/* Calls every function of the boundary as an input's bytes say, and holds each call to the header file.
+ *
+ * One drive (record and two stores) and one collection (state and copy) live through an input. Whatever is lent stands in a slot: pages
+ * between two that nobody may touch, at their front or rear edge as the input says, and a margin at the other side of it. Each slot has
+ * an image of what it must hold, margin included. A call's rule brings the images up to date, and then every slot is compared with its
+ * image, so a byte that changed where none may change is found.
+ *
+ * The library is not instrumented: the sanitizers watch this file and the C library alone, and the untouchable pages watch the proved
+ * code. For the same reason each function's answers are counted where libFuzzer finds them: else it could not tell what is new to it.
+ *
+ * With -DREPLAY it is a program of its own that runs the files it is given and prints which answers each function gave. */
+#define _GNU_SOURCE
+#include "bumbazeel.h"
+
+#include <stdbool.h>
+#include <stdio.h>
+#include <stdlib.h>
+#include <string.h>
+#include <sys/mman.h>
+
+enum { BLOCK = 512, REASON_BYTES = 128, MOST_BLOCKS = 16, MOST = MOST_BLOCKS * BLOCK, MOST_CALLS = 64 };
+enum { PAGE = 4096, MARGIN = 64, ROOM = MOST + PAGE }; /* of a slot */
+enum { HEADER_07 = 7, HEADER_08 = 8, CREATE_BIT = 1 << 8, RAE_BIT = 1 << 15 };
+enum { FIRST_HEADER, CHUNK, CLOSING, CLOSING_AFTER_REFUSAL, ACKNOWLEDGEMENT, ENDED_PHASE }; /* a state's phases */
+static const uint64_t MOST_ATTEMPT_COMMANDS = 1048577;
+
+static void broken(const char *test, int line) {
+    fprintf(stderr, "fuzz.c:%d: does not hold: %s\n", line, test);
+    abort();
+}
+#define must(test) ((test) ? (void)0 : broken(#test, __LINE__))
+
+/* ---- what was reached */
+
+enum function { CHECK, BUILD, SETUP, STEP, FRESH, COMMAND, CAPTURE, NUMBERS, FUNCTIONS };
+enum { VARIANTS = 8, ANSWERS = 32, SENDS = 16 }; /* a step that goes on counts as answer 16 */
+__attribute__((section("__libfuzzer_extra_counters"))) static uint8_t reached[FUNCTIONS][VARIANTS][ANSWERS];
+
+static void reach(enum function function, unsigned variant, unsigned answer) { reached[function][variant % VARIANTS][answer % ANSWERS] = 1; }
+
+/* ---- the input */
+
+/* Each call of these stands in a statement of its own where the order of two would be the compiler's choice. */
+static const uint8_t *input;
+static size_t left;
+
+static uint8_t byte(void) {
+    if (!left)
+        return 0;
+    left--;
+    return *input++;
+}
+
+/* Mostly a number that small stores have room for, else one beside a limit, else any. */
+static uint32_t number(void) {
+    static const uint32_t limits[] = {65535, 65536,  1048576,  1048577, 8191, 8192, 8193,       255,
+                                      256,   257,    0xFFFFFF, 0x1000000, 512, 511,  536870912, 0xFFFFFFFF};
+    uint8_t first = byte();
+    if (first < 0xC0)
+        return first % (MOST_BLOCKS + 2);
+    if (first < 0xF0)
+        return limits[first % (sizeof limits / sizeof *limits)];
+    uint32_t any = 0;
+    for (int i = 0; i < 4; i++)
+        any = any << 8 | byte();
+    return any;
+}
+
+/* A length of `bytes`, or now and then another one; never more than a slot holds. */
+static size_t about(size_t bytes) {
+    uint8_t change = byte();
+    if (change >= 0xE0)
+        bytes = change % 2 ? bytes + 1 + change / 2 % 8 : number() * (size_t)BLOCK;
+    else if (change >= 0xC0)
+        bytes = bytes < change % 32u ? 0 : bytes - change % 32u;
+    return bytes < MOST ? bytes : MOST;
+}
+
+/* ---- slots */
+
+enum which { RECORD, HOST, CONTROLLER, LAST, CANDIDATE, REASON, WORDS, BUFFER, CLASS, STATE, NEXT, DATA, COPY, FIELDS, SLOTS };
+
+static struct slot {
+    uint8_t *pages, *lent;
+    size_t bytes;
+    bool rear; /* it stands at the rear edge, with the margin in front of it */
+    _Alignas(8) uint8_t image[MOST + MARGIN];
+} slots[SLOTS];
+static uint8_t rear_edges; /* the slots' edges, by their numbers modulo 8 */
+
+static void map_slots(void) {
+    for (int i = 0; i < SLOTS; i++) {
+        uint8_t *all = mmap(NULL, ROOM + 2 * PAGE, PROT_NONE, MAP_PRIVATE | MAP_ANONYMOUS, -1, 0);
+        must(all != MAP_FAILED);
+        slots[i].pages = all + PAGE;
+        must(!mprotect(slots[i].pages, ROOM, PROT_READ | PROT_WRITE));
+    }
+}
+
+/* What is lent and the margin: the part of a slot that has an image. */
+static uint8_t *watched(const struct slot *s) { return s->rear ? s->pages + ROOM - s->bytes - MARGIN : s->pages; }
+
+/* The image of what is lent. */
+static void *image(enum which which) { return slots[which].image + (slots[which].rear ? MARGIN : 0); }
+
+/* Makes the slot's image what the slot holds. */
+static void settle(enum which which) { memcpy(slots[which].image, watched(&slots[which]), slots[which].bytes + MARGIN); }
+
+/* Lends so many bytes at the slot's edge, all of this value. Without any the pointer may be NULL. */
+static void *lend(enum which which, size_t bytes, uint8_t value) {
+    struct slot *s = &slots[which];
+    s->rear = rear_edges >> which % 8 & 1;
+    s->bytes = bytes;
+    memset(watched(s), 0xA5, bytes + MARGIN);
+    s->lent = watched(s) + (s->rear ? MARGIN : 0);
+    memset(s->lent, value, bytes);
+    settle(which);
+    if (!bytes && rear_edges & 0x80)
+        s->lent = NULL;
+    return s->lent;
+}
+
+/* Takes what was written as the function's result: it is judged by its value. */
+static void accept_all(enum which which) { memcpy(image(which), slots[which].lent, slots[which].bytes); }
+
+static void slots_are_as_they_must(void) {
+    for (int i = 0; i < SLOTS; i++)
+        must(!memcmp(watched(&slots[i]), slots[i].image, slots[i].bytes + MARGIN));
+}
+
+static bool zeros(const void *bytes, size_t count) {
+    for (size_t i = 0; i < count; i++)
+        if (((const uint8_t *)bytes)[i])
+            return false;
+    return true;
+}
+
+#define AS(type, which) ((type *)(void *)slots[which].lent)
+#define THE_RECORD AS(struct bumbazeel_record, RECORD)
+#define THE_STATE AS(struct bumbazeel_state, STATE)
+#define THE_NEXT AS(struct bumbazeel_next, NEXT)
+#define THE_FIELDS AS(struct bumbazeel_fields, FIELDS)
+
+static uint32_t little_endian(const uint8_t *at, int bytes) { return bytes ? at[0] | little_endian(at + 1, bytes - 1) << 8 : 0; }
+
+static bool last_blocks_keep_the_rule(const uint32_t last[4], bool da4s) {
+    return last[0] <= last[1] && last[1] <= last[2] && last[2] <= 65535 && last[3] <= 1048576 && (da4s ? last[3] >= last[2] : !last[3]) &&
+           (!last[3] || last[2]);
+}
+
+/* ---- header check */
+
+static void fields_are_the_headers(const uint8_t *h, uint8_t page, bool da4s) {
+    const struct bumbazeel_fields *f = THE_FIELDS;
+    must(slots[DATA].bytes == BLOCK && h[0] == page && f->page == page && (page == HEADER_07 || page == HEADER_08));
+    must(f->scope == h[page == HEADER_07 ? 380 : 381] && f->host_generation == (page == HEADER_07 ? h[381] : 0));
+    must(f->available == h[382] && f->controller_generation == h[383] && f->oui == little_endian(h + 5, 3) && zeros(f->zero, 3));
+    for (int area = 0; area < 3; area++)
+        must(f->last[area] == little_endian(h + 8 + 2 * area, 2));
+    must(f->last[3] == little_endian(h + 16, 4) && !memcmp(f->reason, h + 384, REASON_BYTES));
+    must(last_blocks_keep_the_rule(f->last, da4s) && f->scope <= 2 && f->available <= 1);
+    must(page == HEADER_07 || !f->available || f->last[2]);
+}
+
+/* Checks what the slot for data holds. */
+static uint8_t check(uint8_t page, uint8_t da4s) {
+    lend(FIELDS, sizeof(struct bumbazeel_fields), 0xEE);
+    uint8_t answer = bumbazeel_check(page, da4s, slots[DATA].lent, slots[DATA].bytes, THE_FIELDS);
+    must(answer == BUMBAZEEL_SUCCESS || answer == BUMBAZEEL_BAD_HEADER);
+    if (answer)
+        must(zeros(THE_FIELDS, sizeof(struct bumbazeel_fields)));
+    else
+        fields_are_the_headers(slots[DATA].lent, page, da4s);
+    accept_all(FIELDS);
+    slots_are_as_they_must();
+    reach(CHECK, page == HEADER_07 ? 1 : page == HEADER_08 ? 2 : 0, answer);
+    return answer;
+}
+
+/* A header as the input says, good ones and bad ones. */
+static void make_header(uint8_t page) {
+    uint8_t *h = lend(DATA, BLOCK, 0);
+    uint8_t shape = byte();
+    uint32_t before = 0;
+    h[0] = shape & 1 ? byte() : page;
+    for (int area = 0; area < 4; area++) {
+        uint32_t last = number() + (shape & 2 ? 0 : before);
+        int at = area == 3 ? 16 : 8 + 2 * area;
+        for (int i = 0; i < (area == 3 ? 4 : 2); i++)
+            h[at + i] = (uint8_t)(last >> 8 * i);
+        before = last;
+    }
+    h[380] = shape & 4 ? byte() : 1;
+    for (int at = 381; at < 385; at++)
+        h[at] = shape & 8 ? byte() : byte() & 1;
+    settle(DATA);
+}
+
+static void check_of_anything(void) {
+    uint8_t page = byte() % 16;
+    if (byte() & 1)
+        make_header(page);
+    else
+        lend(DATA, about(BLOCK), page);
+    check(page, byte() & 1);
+}
+
+/* ---- command builder and numbers */
+
+static void build(void) {
+    uint8_t page = byte(), create = byte() & 1, mcda = byte() % 8, rae = byte() & 1;
+    uint32_t offset = number(), blocks = number();
+    uint32_t *w = lend(WORDS, 5 * sizeof *w, 0xEE);
+    uint8_t answer = bumbazeel_words(page, create, mcda, rae, offset, blocks, w);
+    must(answer == BUMBAZEEL_SUCCESS || answer == BUMBAZEEL_BAD_SETUP);
+    if (answer)
+        must(zeros(w, 5 * sizeof *w));
+    else
+        must((w[0] & 0xFFFF) == (page | (uint32_t)create << 8 | (uint32_t)mcda << 9 | (uint32_t)rae << 15) &&
+             (w[0] >> 16 | w[1] << 16) + 1 == blocks * (BLOCK / 4) && w[2] == offset * BLOCK && !w[3] && !w[4]);
+    accept_all(WORDS);
+    slots_are_as_they_must();
+    reach(BUILD, 0, answer);
+}
+
+static void numbers(void) {
+    uint8_t any = byte(), class = bumbazeel_class(any);
+    uint16_t status = bumbazeel_status(any);
+    must(class <= BUMBAZEEL_CLASS_RESERVED);
+    must(status == (any == 0 ? 0x0000 : any == 1 ? 0x0002 : any == 2 ? 0x0109 : 0xFFFF));
+    slots_are_as_they_must();
+    reach(NUMBERS, 0, class);
+}
+
+/* ---- the drive */
+
+/* Whether record and stores agree. Answer 4 says so, and only a change from outside can change it. */
+static enum { UNKNOWN, AGREE, DISAGREE } agreement;
+
+static void judge_agreement(uint8_t answer) {
+    bool disagree = answer == BUMBAZEEL_DISAGREE;
+    must(agreement == UNKNOWN || disagree == (agreement == DISAGREE));
+    agreement = disagree ? DISAGREE : AGREE;
+}
+
+static void fresh(void) {
+    uint8_t caps = byte(), host_scope = byte() % 4, controller_scope = byte() % 4;
+    caps = caps < 0xF0 ? caps % 32 : caps;
+    uint32_t oui = number();
+    struct bumbazeel_record *r = lend(RECORD, sizeof *r, 0xEE), want = {0};
+    uint8_t answer = bumbazeel_fresh(caps, oui, host_scope, controller_scope, r);
+    must(answer == BUMBAZEEL_SUCCESS || answer == BUMBAZEEL_DISAGREE);
+    if (!answer) {
+        want.caps = caps;
+        want.oui = oui;
+        want.host_scope = host_scope;
+        want.controller_scope = controller_scope;
+    }
+    must(!memcmp(r, &want, sizeof want));
+    accept_all(RECORD);
+    slots_are_as_they_must();
+    agreement = answer ? DISAGREE : AGREE;
+    reach(FRESH, 0, answer);
+}
+
+static void fill_last(uint32_t last[4]) {
+    uint8_t shape = byte();
+    uint32_t before = 0;
+    for (int area = 0; area < 4; area++) {
+        last[area] = shape < 0xE0 ? before + byte() % 4 : number();
+        before = last[area];
+    }
+}
+
+/* A record filled in by hand. */
+static void fill_record(void) {
+    struct bumbazeel_record *r = lend(RECORD, sizeof *r, 0);
+    r->caps = byte() % 32;
+    r->host_scope = byte() % 3;
+    r->controller_scope = byte() % 3;
+    r->host_generation = byte();
+    r->controller_generation = byte();
+    r->available = byte() % 3;
+    r->notice = byte() % 3;
+    r->oui = number();
+    fill_last(r->host_last);
+    if (r->available)
+        fill_last(r->controller_last);
+    memset(r->host_reason, byte(), REASON_BYTES);
+    memset(r->controller_reason, byte(), REASON_BYTES);
+    settle(RECORD);
+    agreement = UNKNOWN;
+}
+
+static void damage_record(void) {
+    uint32_t at = byte();
+    at = (at << 8 | byte()) % (uint32_t)sizeof(struct bumbazeel_record);
+    slots[RECORD].lent[at] = byte();
+    settle(RECORD);
+    agreement = UNKNOWN;
+}
+
+static void change_stores(void) {
+    size_t host = about(byte() % (MOST_BLOCKS + 1) * (size_t)BLOCK);
+    size_t controller = about(byte() % (MOST_BLOCKS + 1) * (size_t)BLOCK);
+    lend(HOST, host, 0x11);
+    lend(CONTROLLER, controller, 0x22);
+    agreement = UNKNOWN;
+}
+
+/* A candidate, mostly one that a controller takes. Its blocks differ. */
+static void make_candidate(void) {
+    uint32_t *last = lend(LAST, 4 * sizeof *last, 0);
+    fill_last(last);
+    settle(LAST);
+    uint32_t blocks = last[3] < MOST_BLOCKS ? last[3] : MOST_BLOCKS;
+    uint8_t first = byte();
+    lend(CANDIDATE, about((size_t)blocks * BLOCK), first);
+    for (size_t i = 0; i < slots[CANDIDATE].bytes; i++)
+        slots[CANDIDATE].lent[i] = (uint8_t)(first + i / BLOCK);
+    settle(CANDIDATE);
+    lend(REASON, about(REASON_BYTES), first);
+}
+
+static size_t transfer_bytes(const uint32_t w[5], bool extended) {
+    return 4 * ((size_t)(extended ? w[0] >> 16 | (w[1] & 0xFFFF) << 16 : w[0] >> 16 & 0xFFF) + 1);
+}
+
+/* The store's first blocks become the candidate's, as far as the last blocks that were taken go. */
+static void take_candidate(enum which store, const uint32_t taken[4], bool da4s) {
+    const uint32_t *last = AS(uint32_t, LAST);
+    size_t bytes = (size_t)(taken[3] > taken[2] ? taken[3] : taken[2]) * BLOCK;
+    must(last_blocks_keep_the_rule(taken, da4s));
+    for (int area = 0; area < 4; area++)
+        must(taken[area] <= last[area]);
+    must(bytes <= slots[store].bytes && slots[CANDIDATE].bytes == (size_t)last[3] * BLOCK && slots[REASON].bytes == REASON_BYTES);
+    if (bytes)
+        memcpy(image(store), slots[CANDIDATE].lent, bytes);
+}
+
+static void create(void) {
+    struct bumbazeel_record *want = image(RECORD);
+    take_candidate(HOST, THE_RECORD->host_last, want->caps & BUMBAZEEL_DA4S);
+    memcpy(want->host_last, THE_RECORD->host_last, sizeof want->host_last);
+    memcpy(want->host_reason, slots[REASON].lent, REASON_BYTES);
+    want->host_generation++;
+}
+
+static void served_header_reads_back(const struct bumbazeel_record *shown, uint8_t page) {
+    bool host = page == HEADER_07;
+    memcpy(lend(DATA, BLOCK, 0), slots[BUFFER].lent, BLOCK);
+    settle(DATA);
+    must(check(page, shown->caps & BUMBAZEEL_DA4S) == BUMBAZEEL_SUCCESS);
+    const struct bumbazeel_fields *f = THE_FIELDS;
+    must(f->oui == shown->oui && f->scope == (host ? shown->host_scope : shown->controller_scope));
+    must(f->host_generation == (host ? shown->host_generation : 0) && f->controller_generation == shown->controller_generation);
+    must(f->available == shown->available);
+    must(!memcmp(f->last, host ? shown->host_last : shown->controller_last, sizeof f->last));
+    must(!memcmp(f->reason, host ? shown->host_reason : shown->controller_reason, REASON_BYTES));
+}
+
+/* What a command that succeeded may have changed, in its order: create, transfer, clearing. */
+static void serve(const uint32_t w[5]) {
+    struct bumbazeel_record *want = image(RECORD);
+    uint8_t page = w[0] & 0xFF;
+    enum which store = page == HEADER_07 ? HOST : CONTROLLER;
+    uint64_t offset = w[2] | (uint64_t)w[3] << 32;
+    size_t bytes = transfer_bytes(w, want->caps & BUMBAZEEL_EXTENDED);
+    must((page == HEADER_07 || page == HEADER_08) && offset % BLOCK == 0 && bytes % BLOCK == 0 && bytes <= slots[BUFFER].bytes);
+    if (page == HEADER_07 && w[0] & CREATE_BIT)
+        create();
+    const uint32_t *last = page == HEADER_07 ? want->host_last : want->controller_last;
+    bool area_4 = want->caps & BUMBAZEEL_DA4S && want->caps & BUMBAZEEL_ETDAS;
+    uint64_t size = BLOCK + (uint64_t)last[area_4 ? 3 : 2] * BLOCK;
+    const struct bumbazeel_record shown = *want;
+    must(offset <= size);
+    for (size_t i = offset ? 0 : BLOCK; i < bytes; i++)
+        ((uint8_t *)image(BUFFER))[i] = offset + i < size ? ((uint8_t *)image(store))[offset + i - BLOCK] : 0;
+    if (page == HEADER_08 && !(w[0] & RAE_BIT)) {
+        want->available = want->notice = 0;
+        memset(want->controller_last, 0, sizeof want->controller_last);
+    }
+    if (!offset) {
+        memcpy(image(BUFFER), slots[BUFFER].lent, BLOCK);
+        served_header_reads_back(&shown, page);
+    }
+}
+
+/* Which kind of command it is, for what was reached. */
+static unsigned command_variant(const uint32_t w[5]) {
+    uint8_t page = w[0] & 0xFF;
+    return page == HEADER_07 ? (w[0] & CREATE_BIT ? 2 : 1) : page == HEADER_08 ? (w[0] & RAE_BIT ? 3 : 4) : 0;
+}
+
+/* Sends the drive the words in their slot, with a buffer in its own. */
+static uint8_t command(void) {
+    const uint32_t *w = AS(uint32_t, WORDS);
+    uint8_t *class = lend(CLASS, 1, 0xEE);
+    uint8_t answer = bumbazeel_command(THE_RECORD, slots[HOST].lent, slots[HOST].bytes, slots[CONTROLLER].lent, slots[CONTROLLER].bytes,
+                                       AS(uint32_t, LAST), slots[CANDIDATE].lent, slots[CANDIDATE].bytes, slots[REASON].lent,
+                                       slots[REASON].bytes, w, slots[BUFFER].lent, slots[BUFFER].bytes, class);
+    must(answer <= BUMBAZEEL_BROKEN_CANDIDATE);
+    must(*class == (answer == BUMBAZEEL_INVALID_LOG_PAGE ? bumbazeel_class(w[0] & 0xFF) : 0));
+    accept_all(CLASS);
+    judge_agreement(answer);
+    reach(COMMAND, command_variant(w), answer);
+    if (!answer)
+        serve(w);
+    slots_are_as_they_must();
+    return answer;
+}
+
+static void make_words(void) {
+    uint32_t *w = lend(WORDS, 5 * sizeof *w, 0);
+    uint8_t shape = byte(), flags = byte();
+    uint32_t dwords = number() * (BLOCK / 4) - 1, offset = number() * BLOCK;
+    w[0] = (flags & 1 ? HEADER_08 : HEADER_07) | (flags >> 1 & 1u) << 8 | (flags >> 2 & 7u) << 9 | (flags >> 5 & 1u) << 15 | dwords << 16;
+    w[1] = dwords >> 16;
+    w[2] = offset;
+    if (shape >= 0xC0)
+        w[shape % 5] ^= number() << shape / 5 % 4 * 8;
+    if (shape >= 0xF0)
+        w[0] = (w[0] & ~0xFFu) | byte();
+    settle(WORDS);
+}
+
+static void command_of_anything(void) {
+    make_candidate();
+    make_words();
+    lend(BUFFER, about(transfer_bytes(AS(uint32_t, WORDS), true)), 0xBB);
+    command();
+}
+
+static void capture(void) {
+    make_candidate();
+    uint8_t answer = bumbazeel_capture(THE_RECORD, slots[HOST].lent, slots[HOST].bytes, slots[CONTROLLER].lent, slots[CONTROLLER].bytes,
+                                       AS(uint32_t, LAST), slots[CANDIDATE].lent, slots[CANDIDATE].bytes, slots[REASON].lent,
+                                       slots[REASON].bytes);
+    must(answer == BUMBAZEEL_SUCCESS || answer == BUMBAZEEL_DISAGREE || answer == BUMBAZEEL_BROKEN_CANDIDATE);
+    judge_agreement(answer);
+    if (!answer) {
+        struct bumbazeel_record *want = image(RECORD);
+        must(THE_RECORD->controller_last[2]);
+        take_candidate(CONTROLLER, THE_RECORD->controller_last, want->caps & BUMBAZEEL_DA4S);
+        memcpy(want->controller_last, THE_RECORD->controller_last, sizeof want->controller_last);
+        memcpy(want->controller_reason, slots[REASON].lent, REASON_BYTES);
+        want->controller_generation++;
+        want->available = want->notice = 1;
+    }
+    slots_are_as_they_must();
+    reach(CAPTURE, 0, answer);
+}
+
+/* ---- the collection */
+
+static bool untouched; /* the state comes from setup, and only steps have changed it */
+static uint64_t sent;  /* commands, since setup */
+
+/* The next command is the one that the state awaits. */
+static void command_is_awaited(void) {
+    const struct bumbazeel_state *s = THE_STATE;
+    const struct bumbazeel_next *next = THE_NEXT;
+    uint32_t want[5];
+    uint8_t creates = s->phase == FIRST_HEADER && s->create;
+    uint32_t rest = s->phase == CHUNK ? s->last[s->area - 1] - s->at + 1 : 1, blocks = rest < s->chunk ? rest : s->chunk;
+    must(s->phase < ENDED_PHASE && (s->phase == CHUNK) == (s->at > 0));
+    must(!bumbazeel_words(s->page, creates, creates && s->caps & BUMBAZEEL_MCDAS ? s->area : 0, s->phase != ACKNOWLEDGEMENT, s->at, blocks,
+                          want));
+    must(!memcmp(next->words, want, sizeof want) && !next->answer && !next->newer && !next->count);
+    must(!untouched || (s->count == sent && sent <= 2 + s->attempts * MOST_ATTEMPT_COMMANDS));
+}
+
+static void setup(void) {
+    uint8_t flags = byte(), caps = flags & 0x40 ? byte() % 40 : 31, page = flags & 0x80 ? byte() : HEADER_07 + (flags & 1);
+    uint8_t area = flags >> 1 & 7;
+    uint32_t chunk = number(), attempts = number();
+    size_t room = flags & 0x20 ? number() : slots[COPY].bytes;
+    lend(STATE, sizeof(struct bumbazeel_state), 0xEE);
+    lend(NEXT, sizeof(struct bumbazeel_next), 0xEE);
+    uint8_t kind = bumbazeel_setup(page, flags >> 4 & 1, area, caps, chunk, attempts, room, THE_STATE, THE_NEXT);
+    must(kind == THE_NEXT->kind && !THE_NEXT->zero && zeros(THE_STATE->zero, 2));
+    accept_all(STATE);
+    accept_all(NEXT);
+    slots_are_as_they_must();
+    reach(SETUP, 0, kind == BUMBAZEEL_SEND ? SENDS : THE_NEXT->answer);
+    untouched = true;
+    sent = kind == BUMBAZEEL_SEND;
+    if (kind == BUMBAZEEL_SEND) {
+        must(THE_STATE->phase == FIRST_HEADER && THE_STATE->attempt == 1);
+        command_is_awaited();
+    } else {
+        must(kind == BUMBAZEEL_REFUSED && (THE_NEXT->answer == BUMBAZEEL_BAD_SETUP || THE_NEXT->answer == BUMBAZEEL_NO_AREA_4));
+        must(THE_STATE->phase == ENDED_PHASE && zeros(THE_NEXT->words, 20) && !THE_NEXT->newer && !THE_NEXT->count);
+    }
+}
+
+static void step_was_refused(const struct bumbazeel_state *before) {
+    const struct bumbazeel_next *next = THE_NEXT;
+    must(next->answer >= BUMBAZEEL_BAD_SETUP && next->answer <= BUMBAZEEL_DOES_NOT_FIT);
+    must(zeros(next->words, 20) && !next->newer && !next->count);
+    must(!untouched || next->answer == (before->phase == ENDED_PHASE ? BUMBAZEEL_ALREADY_ENDED : BUMBAZEEL_DOES_NOT_FIT));
+}
+
+static void run_ended(const struct bumbazeel_state *before) {
+    const struct bumbazeel_next *next = THE_NEXT;
+    bool success = next->answer == BUMBAZEEL_SUCCESS;
+    size_t kept = success ? (size_t)before->last[before->area - 1] * BLOCK : 0;
+    must(success || (next->answer >= BUMBAZEEL_BAD_HEADER && next->answer <= BUMBAZEEL_BROKE_ITS_WORD));
+    must(THE_STATE->phase == ENDED_PHASE && zeros(next->words, 20) && next->newer <= (success && before->phase == ACKNOWLEDGEMENT));
+    must(!untouched || before->phase != ACKNOWLEDGEMENT || before->page == HEADER_08);
+    must(next->count == before->count && (!untouched || next->count == sent) && kept <= slots[COPY].bytes);
+    if (slots[COPY].bytes)
+        memset((uint8_t *)image(COPY) + kept, 0, slots[COPY].bytes - kept);
+}
+
+/* Lends the completion in the slot for data. */
+static void step(uint8_t ok) {
+    const struct bumbazeel_state before = *THE_STATE;
+    lend(NEXT, sizeof(struct bumbazeel_next), 0xEE);
+    uint8_t kind = bumbazeel_step(THE_STATE, ok, slots[DATA].lent, slots[DATA].bytes, slots[COPY].lent, slots[COPY].bytes, THE_NEXT);
+    must(kind == THE_NEXT->kind && kind <= BUMBAZEEL_REFUSED && !THE_NEXT->zero);
+    accept_all(NEXT);
+    reach(STEP, before.phase, kind == BUMBAZEEL_SEND ? SENDS : THE_NEXT->answer);
+    if (kind == BUMBAZEEL_REFUSED) {
+        step_was_refused(&before);
+    } else {
+        must(before.phase < ENDED_PHASE && (before.phase != CHUNK || kind == BUMBAZEEL_SEND));
+        if (before.phase == CHUNK && ok)
+            memcpy((uint8_t *)image(COPY) + (size_t)(before.at - 1) * BLOCK, slots[DATA].lent, slots[DATA].bytes);
+        accept_all(STATE);
+    }
+    if (kind == BUMBAZEEL_SEND) {
+        sent++;
+        command_is_awaited();
+    } else if (kind == BUMBAZEEL_ENDED) {
+        run_ended(&before);
+    }
+    slots_are_as_they_must();
+}
+
+/* Lets the drive answer the command that is awaited, and steps with its completion. */
+static void step_with_the_drive(void) {
+    memcpy(lend(WORDS, sizeof THE_NEXT->words, 0), THE_NEXT->words, sizeof THE_NEXT->words);
+    settle(WORDS);
+    size_t bytes = transfer_bytes(AS(uint32_t, WORDS), true);
+    lend(BUFFER, bytes < MOST ? bytes : MOST, 0xBB);
+    bool ok = command() == BUMBAZEEL_SUCCESS;
+    lend(DATA, ok ? slots[BUFFER].bytes : 0, 0);
+    if (ok)
+        memcpy(slots[DATA].lent, slots[BUFFER].lent, slots[BUFFER].bytes);
+    settle(DATA);
+    step(ok);
+}
+
+/* A completion as the input says. */
+static void step_with_anything(void) {
+    uint8_t what = byte();
+    size_t awaited = transfer_bytes(THE_NEXT->words, true);
+    if (what < 0x60)
+        make_header(THE_STATE->page);
+    else if (what < 0xB0)
+        lend(DATA, about(awaited < MOST ? awaited : MOST), what);
+    else
+        lend(DATA, what < 0xF0 ? 0 : byte(), 0);
+    step(what < 0xB0 || what & 1);
+}
+
+/* A collection from the drive, with whatever else happens between its commands. */
+static void run(void) {
+    setup();
+    make_candidate();
+    for (int i = 0; i < MOST_CALLS && THE_NEXT->kind == BUMBAZEEL_SEND; i++) {
+        uint8_t happening = byte();
+        if (happening >= 0xF0)
+            step_with_anything();
+        else if (happening >= 0xE0)
+            command_of_anything();
+        else if (happening >= 0xC0)
+            capture();
+        else
+            step_with_the_drive();
+    }
+}
+
+static void damage_state(void) {
+    size_t at = byte() % sizeof(struct bumbazeel_state);
+    slots[STATE].lent[at] = byte();
+    settle(STATE);
+    untouched = false;
+}
+
+static void change_copy(void) { lend(COPY, about(byte() % (MOST_BLOCKS + 1) * (size_t)BLOCK), 0xCC); }
+
+/* ---- an input */
+
+static void (*const calls[])(void) = {
+    run,   command_of_anything, capture, step_with_anything, fresh,         fill_record,  setup,       check_of_anything,
+    build, numbers,             damage_record,               change_stores, damage_state, change_copy,
+};
+
+static void begin(void) {
+    if (!slots[0].pages)
+        map_slots();
+    rear_edges = byte();
+    for (int i = 0; i < SLOTS; i++)
+        lend((enum which)i, 0, 0);
+    agreement = UNKNOWN;
+    untouched = false;
+    lend(RECORD, sizeof(struct bumbazeel_record), 0);
+    lend(STATE, sizeof(struct bumbazeel_state), 0);
+    lend(NEXT, sizeof(struct bumbazeel_next), 0);
+    lend(LAST, 4 * sizeof(uint32_t), 0);
+    change_stores();
+    change_copy();
+    fresh();
+}
+
+int LLVMFuzzerTestOneInput(const uint8_t *bytes, size_t count);
+int LLVMFuzzerTestOneInput(const uint8_t *bytes, size_t count) {
+    input = bytes;
+    left = count;
+    begin();
+    for (int i = 0; i < MOST_CALLS && left; i++)
+        calls[byte() % (sizeof calls / sizeof *calls)]();
+    return 0;
+}
+
+#ifdef REPLAY
+static void tell_reached(void) {
+    static const char *const names[FUNCTIONS] = {"check", "words", "setup", "step", "fresh", "command", "capture", "class"};
+    for (int f = 0; f < FUNCTIONS; f++) {
+        printf("%s:", names[f]);
+        for (int a = 0; a < ANSWERS; a++) {
+            bool any = false;
+            for (int v = 0; v < VARIANTS; v++)
+                any |= reached[f][v][a];
+            if (any)
+                printf(a == SENDS ? " send" : " %d", a);
+        }
+        puts("");
+    }
+}
+
+int main(int count, char **files) {
+    static uint8_t bytes[1 << 16];
+    for (int i = 1; i < count; i++) {
+        FILE *file = fopen(files[i], "rb");
+        if (!file) {
+            perror(files[i]);
+            return 1;
+        }
+        LLVMFuzzerTestOneInput(bytes, fread(bytes, 1, sizeof bytes, file));
+        fclose(file);
+    }
+    tell_reached();
+    return 0;
+}
+#endif
