@@ -3,6 +3,7 @@
 #include "bumbazeel.h"
 
 #include <stdio.h>
+#include <stdlib.h>
 #include <string.h>
 
 #ifdef __cplusplus
@@ -114,6 +115,10 @@ static void begin(struct drive *d) {
 }
 
 static void numbers(void) {
+    int counts[4] = {0, 0, 0, 0};
+    for (int page = 0; page < 256; page++)
+        counts[bumbazeel_class((uint8_t)page) & 3]++;
+    expect(counts[0] == 42 && counts[1] == 64 && counts[2] == 64 && counts[3] == 86);
     expect(bumbazeel_class(0x07) == BUMBAZEEL_CLASS_NAMED);
     expect(bumbazeel_class(0x0e) == BUMBAZEEL_CLASS_ELSEWHERE);
     expect(bumbazeel_class(0xc0) == BUMBAZEEL_CLASS_VENDOR);
@@ -256,6 +261,60 @@ static void collection(uint8_t page, uint8_t create, unsigned commands) {
     expect(!memcmp(&ended, &state, sizeof state) && all(next.words, sizeof next.words, 0) && next.count == 0);
 }
 
+/* Parts of 4 MiB and more take another way through the library than small ones: a candidate into each store, a transfer, and the chunks of
+ * a collection. The last four pages of them are not full. */
+static void large(void) {
+    const uint32_t blocks = 8192 + 40, last[4] = {1, 2, 3, blocks}, dwords = blocks * (BLOCK / 4) - 1;
+    const uint32_t whole[5] = {0x8007 | (dwords & 0xffff) << 16, dwords >> 16, BLOCK, 0, 0};
+    const size_t bytes = (size_t)blocks * BLOCK;
+    uint8_t *memory = (uint8_t *)malloc(5 * bytes), *host = memory, *controller = host + bytes, *candidate = controller + bytes;
+    uint8_t *buffer = candidate + bytes, *copy = buffer + bytes, reason[128], identifier_class;
+    struct bumbazeel_record record;
+    struct bumbazeel_state state;
+    struct bumbazeel_next next;
+    expect(memory != NULL);
+    if (!memory)
+        return;
+    memset(memory, 0x55, 5 * bytes);
+    memset(reason, 0xab, sizeof reason);
+    for (size_t i = 0; i < bytes; i++)
+        candidate[i] = (uint8_t)(i * 2654435761u >> 13);
+    expect(bumbazeel_fresh(CAPS, 0, 1, 1, &record) == BUMBAZEEL_SUCCESS);
+    expect(bumbazeel_capture(&record, host, bytes, controller, bytes, last, candidate, bytes, reason, 128) == BUMBAZEEL_SUCCESS);
+    expect(!memcmp(controller, candidate, bytes) && all(host, bytes, 0x55));
+    expect(bumbazeel_setup(0x07, 1, 4, CAPS, 8192, 1, bytes, &state, &next) == BUMBAZEEL_SEND);
+    while (next.kind == BUMBAZEEL_SEND) {
+        size_t asked = ((size_t)(next.words[0] >> 16 | next.words[1] << 16) + 1) * 4;
+        expect(bumbazeel_command(&record, host, bytes, controller, bytes, last, candidate, bytes, reason, 128, next.words, buffer, bytes,
+                                 &identifier_class) == BUMBAZEEL_SUCCESS);
+        bumbazeel_step(&state, 1, buffer, asked, copy, bytes, &next);
+    }
+    expect(next.answer == BUMBAZEEL_SUCCESS && next.count == 4 && !memcmp(host, candidate, bytes) && !memcmp(copy, candidate, bytes));
+    expect(bumbazeel_command(&record, host, bytes, controller, bytes, last, NULL, 0, NULL, 0, whole, buffer, bytes, &identifier_class) ==
+           BUMBAZEEL_SUCCESS);
+    expect(!memcmp(buffer, candidate, bytes));
+    free(memory);
+}
+
+/* A flag is 0 or anything else. */
+static void flags(void) {
+    struct bumbazeel_state one, many;
+    struct bumbazeel_next next_one, next_many;
+    uint32_t built_one[5], built_many[5];
+    struct bumbazeel_fields fields;
+    uint8_t header[BLOCK];
+    expect(bumbazeel_setup(0x07, 1, 1, CAPS, 1, 1, 512, &one, &next_one) == BUMBAZEEL_SEND && one.create == 1);
+    expect(bumbazeel_setup(0x07, 128, 1, CAPS, 1, 1, 512, &many, &next_many) == BUMBAZEEL_SEND);
+    expect(!memcmp(&one, &many, sizeof one) && !memcmp(&next_one, &next_many, sizeof next_one));
+    expect(bumbazeel_words(0x07, 1, 4, 1, 0, 1, built_one) == BUMBAZEEL_SUCCESS && bumbazeel_words(0x07, 2, 4, 128, 0, 1, built_many) == BUMBAZEEL_SUCCESS);
+    expect(!memcmp(built_one, built_many, sizeof built_one));
+    memset(header, 0, sizeof header);
+    header[0] = 0x07;
+    header[12] = header[16] = 1; /* a last block of areas 3 and 4 */
+    expect(bumbazeel_check(0x07, 128, header, sizeof header, &fields) == BUMBAZEEL_SUCCESS && fields.last[2] == 1 && fields.last[3] == 1);
+    expect(bumbazeel_check(0x07, 0, header, sizeof header, &fields) == BUMBAZEEL_BAD_HEADER);
+}
+
 static void refused_setups(void) {
     struct bumbazeel_state state;
     struct bumbazeel_next next;
@@ -315,6 +374,8 @@ int main(void) {
     controller();
     collection(0x07, 1, 4);
     collection(0x08, 0, 5);
+    large();
+    flags();
     refused_setups();
     refused_steps();
     if (failures)
