@@ -5,7 +5,7 @@
 # make valgrind  runs the program's tests under valgrind
 # make fuzz      calls the library with whatever a fuzzer thinks of, for ten minutes (SECONDS=600)
 # make demo      shows a collection that a capture interrupts
-# make bench     measures serving against memcpy, as ratios in one run
+# make bench     measures serving and collecting against memcpy and against nvme-cli, as ratios in one run (BENCH_MIB=512)
 # make clean     removes build/; what rt has proved stays in target/
 VERSION := 0.1.0
 SONAME := libbumbazeel.so.0
@@ -102,11 +102,14 @@ build/fuzz/fuzz: tests/fuzz/fuzz.c include/bumbazeel.h build/libbumbazeel.a
 demo: build/bumbazeel
 	@program/demo build/bumbazeel
 
-bench: build/bench_serving
-	@build/bench_serving
+bench: build/bench/serving build/bench/collecting build/bumbazeel build/shim.so
+	@build/bench/serving
+	@build/bench/collecting
+	@bench/stock
 
-build/bench_serving: bench/serving.c include/bumbazeel.h build/libbumbazeel.a
-	$(CC) $(CFLAGS) -Iinclude -o $@ bench/serving.c build/libbumbazeel.a
+build/bench/%: bench/%.c include/bumbazeel.h build/libbumbazeel.a
+	@mkdir -p $(@D)
+	$(CC) $(CFLAGS) -std=c11 -Iinclude -Wl,-z,noexecstack -o $@ $< build/libbumbazeel.a
 
 clean:
 	rm -rf build
