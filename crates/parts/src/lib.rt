@@ -12,8 +12,10 @@ ghost use lib.ListN.{length};
 ghost use Rattle.parts.specs.Parts.{putAt, zeros};
 ghost use Rattle.parts.specs.Copied.{CopiedPart, CopiedFronts, front};
 
-// From so many bytes on several streams are faster: a shorter copy stays in the caches, where one stream is.
+// Into so many bytes several streams are faster: less than that stays in the caches, where one stream is.
 const LARGE: usize = 4194304;
+// The bytes of four pages.
+const FOUR_PAGES: usize = 16384;
 
 // `count` bytes of `src` from `at` on go to the same place of `dst`.
 fn copy_part(src: &[u8], dst: &mut [u8], at: usize, count: usize)
@@ -64,7 +66,7 @@ fn copy_all(src: &[u8], dst: &mut [u8])
     requires { ⌜ length (now src) ≤ length (now dst) ⌝ }
     ensures { λ _. ⌜ now (dst .exit) ≡ front (now (src .entry)) (now (dst .entry)) ⌝ }
 {
-    if src.len() < LARGE {
+    if (src.len() < FOUR_PAGES) | (dst.len() < LARGE) {
         bytes::copy(src, dst);
     } else {
         copy_large(src, dst);
