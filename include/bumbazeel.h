@@ -64,7 +64,8 @@ struct bumbazeel_fields {
 };
 
 /* A collection's state. 56 bytes. Lend it back as it was given. One that is damaged (`phase` over 5, `create` over 1, `caps` over 31, `zero`
- * not zero, or `at` not zero in a phase other than 1) gets 13, and so does one whose numbers no setup can lead to. */
+ * not zero, or `at` not zero in a phase other than 1) gets 13, and so does one whose numbers break setup's limits, whose `attempt` is not 1 to
+ * `attempts`, whose `count` is over 2 + `attempts` * 1,048,577, whose area does not fit `room`, or whose chunk starts outside the area. */
 struct bumbazeel_state {
     uint8_t phase;      /*  0: what is awaited: 0 first header, 1 chunk, 2 closing header, 3 closing header after a refused chunk,
                                4 acknowledgement, 5 nothing (ended) */
