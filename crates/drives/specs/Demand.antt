@@ -24,7 +24,7 @@ use Rattle.runs.specs.Run.{given, acknowledging}
 use Rattle.runs.specs.Ended.{Reached, reached-count, begins}
 use Rattle.drives.specs.Drive.{Drive, Turn, Stand, forLent, happen, hears, turnBy, run, begun, collected}
 use Rattle.drives.specs.Keeps.{Keeps}
-use Rattle.drives.specs.Promise.{Told, mostOf, Promise, Finished}
+use Rattle.drives.specs.Promise.{Told, mostCommands, Promise, Finished}
 use Rattle.drives.specs.Inv.{Common, Over, Inv}
 use Rattle.drives.specs.Judged.{first-inv}
 use Rattle.drives.specs.Turns.{run-grows, not-spoiled, hears-counts, said-by, over-by, run-inv, going-counts}
@@ -65,7 +65,7 @@ module _ (D : Drive) (p : Plan) (K : Keeps D p) where
   same-ending : {e f : Ending} → Ends e ≡ Ends f → e ≡ f
   same-ending q = cc
 
-  bound : (k most : ℕ) (s : Stand D) → Common D p K s → Reached most (s .collection) → s .captures ≤ k → s .collection .count ≤ mostOf D p K k most
+  bound : (k most : ℕ) (s : Stand D) → Common D p K s → Reached most (s .collection) → s .captures ≤ k → s .collection .count ≤ mostCommands p k most
   bound k most s c r h =
       let a : s .collection .attempt ≤ k + 1 = omega (arith, c .tries) in
       let n : s .collection .count ≤ 1 + s .collection .attempt * (most + 1) + acknowledging p = rw (c .plan) at (reached-count most (s .collection) r) in

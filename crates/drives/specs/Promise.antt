@@ -22,6 +22,10 @@ pub record Finished (D : Drive) (s : Stand D) : Type 0 where
   pub ending : Ending
   pub said : s .said ≡ Ends ending
 
+-- the most commands of a run with k captures at most, C being the chunks: 1 + (k + 1)(C + 1), one more on 08h
+abbrev pub mostCommands : Plan → ℕ → ℕ → ℕ
+mostCommands p k chunks = 1 + (k + 1) * (chunks + 1) + acknowledging p
+
 module _ (D : Drive) (p : Plan) (K : Keeps D p) where
   -- how a run may end, d being the drive at the last header that was judged:
   -- with success, and then the copy is the wanted area of d and zeros after it, and a newer capture is said to be unread just where there was one;
@@ -37,14 +41,11 @@ module _ (D : Drive) (p : Plan) (K : Keeps D p) where
     empty : e .answer ≡ nothing → s .copy ≡ zeros (p .room) → showsNone p (K .shows (s .checked)) ≡ true → length (s .sent) ≡ 1 → Told e s
 
   -- of a run with k captures at most
-  abbrev pub mostOf : ℕ → ℕ → ℕ
-  mostOf k chunks = 1 + (k + 1) * (chunks + 1) + acknowledging p
-
   pub record Promise (k : ℕ) (s : Stand D) : Type 0 where
-    -- the count is the length of the record, and within 1 + (k + 1)(C + 1), one more on 08h, also with C at the house limit
+    -- the count is the length of the record, and within that number, also with C at the house limit
     pub counted : s .collection .count ≡ length (s .sent)
-    pub bounded : s .collection .count ≤ mostOf k (s .most)
-    pub limited : s .collection .count ≤ mostOf k most4
+    pub bounded : s .collection .count ≤ mostCommands p k (s .most)
+    pub limited : s .collection .count ≤ mostCommands p k most4
     -- never 13, 14 or 15
     pub never : (n : ℕ) → s .said ≡ Refused n → ⊥
     -- every ending is one of the four, and says the count

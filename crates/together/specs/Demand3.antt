@@ -7,7 +7,6 @@ use mathlib.Core.Bool.{true, false}
 use lib.ListN.{length}
 use lib.Dec.{ltb, eqb}
 use borrow.Author.Tests.{eqb-true}
-use Rattle.basics.specs.Choice.{pick}
 use Rattle.basics.specs.Tests.{and-left, and-right}
 use Rattle.parts.specs.Parts.{zeros}
 use Rattle.answers.specs.Answers.{success, noRoom, withdrawn, nothing}
@@ -22,7 +21,7 @@ use Rattle.verdicts.specs.Accepted.{unless-disagree}
 use Rattle.controller.specs.Controller.{World, lentBy}
 use Rattle.controller.specs.Laws.{Typed, asked, command-answer}
 use Rattle.drives.specs.Drive.{Turn, Stand, forLent, collected}
-use Rattle.drives.specs.Promise.{Told, succeeded, lacked, withdrew, empty, Finished}
+use Rattle.drives.specs.Promise.{Told, succeeded, lacked, withdrew, empty, mostCommands, Finished}
 use Rattle.drives.specs.Demand.{demand, first-fair}
 use Rattle.together.specs.Bench.{Loan, ownOf, drive}
 use Rattle.together.specs.Shown.{showsFor, wantedArea, Good}
@@ -53,10 +52,6 @@ module _ (p : Plan) (copy : List ℕ) (w : World) (first : Loan) (ts : List (Tur
 
   -- ---- what is promised
 
-  -- 1 + (k + 1)(C + 1), one more on 08h
-  abbrev pub mostCommands : ℕ → ℕ → ℕ
-  mostCommands k chunks = 1 + (k + 1) * (chunks + 1) + pick (eqb (p .page) ctrlPage) 1 0
-
   -- how it may end, v being the controller at the last check, the last header that was judged
   pub data Ended (e : Ending) (v : World) : Type 0 where
     -- 0: the copy is the wanted area of v and then zeros; a newer capture is said to be unread just where one came after the last check
@@ -72,12 +67,13 @@ module _ (p : Plan) (copy : List ℕ) (w : World) (first : Loan) (ts : List (Tur
     -- the reported count is the number of commands in the run's record
     pub counted : final .collection .count ≡ length (final .sent)
     pub says : (e : Ending) → final .said ≡ Ends e → e .count ≡ length (final .sent)
-    -- it is within the bound, C being the most chunks that an attempt's header called for, and also with C at the house limit
-    pub bounded : final .collection .count ≤ mostCommands k (final .most)
-    pub limited : final .collection .count ≤ mostCommands k most4
+    -- it is within 1 + (k + 1)(C + 1), one more on 08h, C being the most chunks that an attempt's header called for, and also with C at the house
+    -- limit
+    pub bounded : final .collection .count ≤ mostCommands p k (final .most)
+    pub limited : final .collection .count ≤ mostCommands p k most4
     -- and so many completions end the run
-    pub ends : mostCommands k (final .most) ≤ 1 + length ts → Finished (drive (p .page)) final
-    pub ends-limited : mostCommands k most4 ≤ 1 + length ts → Finished (drive (p .page)) final
+    pub ends : mostCommands p k (final .most) ≤ 1 + length ts → Finished (drive (p .page)) final
+    pub ends-limited : mostCommands p k most4 ≤ 1 + length ts → Finished (drive (p .page)) final
     -- never 13, 14 or 15
     pub never : (n : ℕ) → final .said ≡ Refused n → ⊥
     -- every ending is one of the four, and true

@@ -21,8 +21,9 @@ use Rattle.collection.specs.declared.Next.the-variants.{Ended as Ends}
 use Rattle.collection.specs.Collection.{setupOf, stepOf, decideOf, refusalOf, stateOk, completionFits, expectedOf, lookOf, matches, moveOf, actOf as moved, awaitedOf, touched, copyAfter}
 use Rattle.controller.specs.Controller.{World, world, Candidate, candidate, commandOf, answered, before, afterwards, sentOf, pageOf, hostCaptured}
 use Rattle.drives.specs.Drive.{Turn, happens, happen, hears, run, begun, collected}
+use Rattle.drives.specs.Promise.{mostCommands}
 use Rattle.together.specs.Bench.{Sent, Loan, actOf, capturesOf, ownOf, drive}
-use Rattle.together.specs.Demand3.{final, Asked, mostCommands}
+use Rattle.together.specs.Demand3.{final, Asked}
 
 abbrev caps : Caps
 caps = record { ext = true; tel = true; da4s = false; etdas = false; mcdas = false }
@@ -48,7 +49,7 @@ turns =
     ∷ record { events = []; lent = loan }
     ∷ []
 
-pub example : (final plan [] fresh loan turns .said ≡ Ends (record { answer = success; newer = false; count = 3 })) × (mostCommands plan [] fresh loan turns 1 0 ≡ 3)
+pub example : (final plan [] fresh loan turns .said ≡ Ends (record { answer = success; newer = false; count = 3 })) × (mostCommands plan 1 0 ≡ 3)
 unfolding final collected run happen happens hears begun setupOf setupAnswer holds stepOf decideOf refusalOf stateOk withinBy fitsRoom completionFits expectedOf lookOf lookBy seenOf checkOf fieldsOk lastOk generationOf moveOf judgeBy firstJudge laterJudge mismatchJudge moved awaitedOf awaitedBy builtBy builtOf taken phaseAt matches copyAfter touched putAt commandOf answered commandAnswer agreesWith storeOk ctrlOk identityOk greatestOf fieldBad lastAfter candidateOk sizeOf blocksOf topOf trimmedTo trimOf before afterwards sentOf pageOf pageBytes windowOf headerOf hostFields ctrlFields fieldsFor freshOf hostCaptured ownOf actOf capturesOf
 example = (refl, refl)
 
