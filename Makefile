@@ -46,7 +46,7 @@ $(OBJECTS)/%.o: program/%.c Makefile
 	$(CC) $(CPPFLAGS) $(CFLAGS) $(PROGRAM_FLAGS) -MMD -MP -c -o $@ $<
 
 $(OBJECTS)/bumbazeel: $(SOURCES:program/%.c=$(OBJECTS)/%.o) build/libbumbazeel.a
-	$(CC) $(CFLAGS) $(LDFLAGS) -Wl,-z,noexecstack -o $@ $^
+	$(CC) $(CFLAGS) $(LDFLAGS) -Wl,-z,noexecstack -o $@ $^ -ldl
 
 build/bumbazeel: build/program/bumbazeel
 	cp $< $@

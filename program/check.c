@@ -3,6 +3,7 @@
 
 #include "arguments.h"
 #include "bumbazeel.h"
+#include "json.h"
 #include "numbers.h"
 #include "say.h"
 
@@ -215,6 +216,7 @@ int check_command(char **words) {
         print_table(&f, &saved);
     else
         printf("%-24s%u (%s)\n", "header", f.answer, meaning(f.answer));
+    say_at_death(NULL); /* its object is printed */
     close_stdout("");
-    return f.answer == BUMBAZEEL_SUCCESS && f.fits ? STATUS_SUCCESS : STATUS_OTHERWISE;
+    return f.answer ? f.answer : f.fits ? STATUS_SUCCESS : STATUS_OTHER_LENGTH;
 }

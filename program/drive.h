@@ -8,20 +8,30 @@
 #include <stddef.h>
 #include <stdint.h>
 
-struct drive {
-    uint8_t caps;         /* as bumbazeel_setup takes them */
-    uint32_t oui;         /* 24 bits */
-    uint32_t most_blocks; /* the most blocks that one command may transfer */
-    uint16_t refusal;     /* NVMe status, type * 256 + code, of the latest command that it refused; 0 before the first */
+/* What became of a command. Lost: it is not known what the drive did, and why that is so stands in the drive's `trouble`. */
+enum completion { SUCCEEDED, REFUSED, LOST };
 
-    /* Sends a Get Log Page of these words, which transfers `bytes` bytes. True: it succeeded, and data holds them. False: the drive
-     * refused it. Dies if the drive cannot be asked. */
-    bool (*send)(struct drive *drive, const uint32_t words[5], uint8_t *data, size_t bytes);
+struct drive {
+    const char *path;           /* of the device; NULL: the embedded drive */
+    char serial[21], model[41], firmware[9];
+    uint8_t caps;               /* as bumbazeel_setup takes them */
+    uint32_t oui;               /* 24 bits */
+    uint32_t most_blocks;       /* the most blocks that one command may transfer, */
+    const char *most_blocks_by; /* and who says so */
+    uint16_t refusal;           /* NVMe status, type * 256 + code, of the latest command that it refused; 0 before the first */
+    char trouble[256];
+
+    /* Sends a Get Log Page of these words, which transfers `bytes` bytes; with success data holds them. */
+    enum completion (*send)(struct drive *drive, const uint32_t words[5], uint8_t *data, size_t bytes);
 };
+
+/* The device's path, or what the embedded drive is called. */
+const char *drive_name(const struct drive *drive);
 
 /* ---- a device of this machine, through Linux's admin passthrough */
 
-struct drive *device_open(const char *path);
+/* Opens it and asks what it can do. A command may take `timeout` milliseconds; 0: as long as the system lets it. Dies if it is no drive. */
+struct drive *device_open(const char *path, uint32_t timeout);
 
 /* ---- the embedded drive: the library's own controller, with contents made from a seed */
 

@@ -112,18 +112,18 @@ static bool refused_after_happenings(void) {
     return refused;
 }
 
-static bool embedded_send(struct drive *drive, const uint32_t words[5], uint8_t *data, size_t bytes) {
+static enum completion embedded_send(struct drive *drive, const uint32_t words[5], uint8_t *data, size_t bytes) {
     here.sent++;
     if (refused_after_happenings()) {
         drive->refusal = INTERNAL_ERROR;
-        return false;
+        return REFUSED;
     }
     bool create = here.page == PAGE_07 && words[0] & CREATE_BIT;
     struct candidate c = create ? next_candidate(here.plan.areas) : no_candidate();
     uint8_t answer = command(&c, words, data, bytes);
     if (answer)
         drive->refusal = bumbazeel_status(answer);
-    return answer == BUMBAZEEL_SUCCESS;
+    return answer == BUMBAZEEL_SUCCESS ? SUCCEEDED : REFUSED;
 }
 
 /* The bytes of the largest capture to come. */
@@ -137,7 +137,13 @@ static size_t store_bytes(const struct embedded *plan) {
 
 struct drive *embedded_open(uint8_t page, const struct embedded *plan) {
     size_t bytes = store_bytes(plan);
-    here.drive = (struct drive){.caps = plan->caps, .oui = OUI, .most_blocks = UINT32_MAX, .send = embedded_send};
+    here.drive = (struct drive){.serial = "EMBEDDED",
+                                .model = "Bumbazeel embedded drive",
+                                .firmware = VERSION,
+                                .caps = plan->caps,
+                                .oui = OUI,
+                                .most_blocks = UINT32_MAX,
+                                .send = embedded_send};
     here.plan = *plan;
     here.page = page;
     here.host_bytes = page == PAGE_07 ? bytes : 0;

@@ -1,8 +1,11 @@
 /* bumbazeel: collects NVMe telemetry pages, checks saved ones, builds command words. All that matters is decided by the proved library. */
 #include "commands.h"
+#include "json.h"
 #include "say.h"
 
+#include <errno.h>
 #include <fcntl.h>
+#include <stdbool.h>
 #include <stddef.h>
 #include <stdio.h>
 #include <string.h>
@@ -17,17 +20,28 @@ static const char help[] = "usage: bumbazeel COMMAND [OPTIONS]\n"
                            "bumbazeel COMMAND --help tells a command's options.\n"
                            "bumbazeel --version tells the version.\n"
                            "\n"
-                           "Exit status: 0 success; 1 a collection that ended otherwise, or a file that is\n"
-                           "not as its header says; 2 bad use or other trouble.\n";
+                           "Exit status: 0 success; 7 to 12 the ending of a collection, 7 a bad header of a\n"
+                           "saved page; 1 a file that is not as long as its header says; 2 bad use, and\n"
+                           "what the machine refuses.\n";
 
-/* A closed standard stream would lend its number to the next file that is opened, and what is printed would go there. */
+/* A closed standard stream would lend its number to the next file that is opened, and what is printed would go there. The root directory is
+ * always there, and takes no byte. */
 static void fill_standard_streams(void) {
     int file;
     do
-        file = open("/dev/null", O_RDONLY);
+        file = open("/", O_RDONLY | O_DIRECTORY);
     while (file >= 0 && file <= STDERR_FILENO);
-    if (file >= 0)
-        close(file);
+    if (file < 0)
+        die("the standard streams cannot be made sure of: %s", strerror(errno));
+    close(file);
+}
+
+/* Whoever asks for JSON gets it of a bad command line too. */
+static bool asks_for_json(char **words) {
+    for (; *words && strcmp(*words, "--") != 0; words++)
+        if (strcmp(*words, "--json") == 0)
+            return true;
+    return false;
 }
 
 static int print(const char *text) {
@@ -42,6 +56,8 @@ int main(int argc, char **argv) {
         int (*run)(char **words);
     } commands[] = {{"collect", collect_command}, {"check", check_command}, {"words", words_command}};
     fill_standard_streams();
+    if (asks_for_json(argv))
+        say_at_death(json_error);
     if (argc < 2)
         die("no command: give collect, check or words (bumbazeel --help)");
     for (size_t i = 0; i < sizeof commands / sizeof *commands; i++)

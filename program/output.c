@@ -1,5 +1,6 @@
 /* A temporary file in the directory of the one that is wanted, then a rename: no reader ever meets half a file, and an older file is only
  * replaced by a whole one. The temporary is removed at the program's end, whichever way that comes. */
+#define _GNU_SOURCE /* syncfs */
 #include "output.h"
 
 #include "say.h"
@@ -7,23 +8,31 @@
 
 #include <errno.h>
 #include <fcntl.h>
+#include <poll.h>
 #include <stdio.h>
 #include <stdlib.h>
 #include <string.h>
+#include <sys/ioctl.h>
 #include <sys/stat.h>
+#include <time.h>
 #include <unistd.h>
 
-enum { PIECE = 1 << 20 }; /* between two pieces a stop is looked for */
+enum { PIECE = 1 << 20, PERMISSIONS = 0777, WRITERS = 0222 }; /* between two pieces a stop is looked for */
+enum { MOMENT = 20 };                                         /* milliseconds: a stop is looked for as often while somebody is waited for */
 
 static struct {
     const char *name, *base; /* as it was given, and its last part */
+    bool standard;           /* it is standard output */
     int directory, file;
-    char temporary[64]; /* "" while there is none */
-} output = {.directory = -1, .file = -1};
+    mode_t mode;
+    char temporary[80]; /* "" while there is none */
+} output;
+
+const char *output_called(void) { return output.standard ? "standard output" : output.name; }
 
 static void remove_temporary(void) {
-    if (output.temporary[0])
-        unlinkat(output.directory, output.temporary, 0);
+    if (output.temporary[0] && unlinkat(output.directory, output.temporary, 0))
+        say("%s: the temporary file %s beside it cannot be removed: %s", output.name, output.temporary, strerror(errno));
     output.temporary[0] = '\0';
 }
 
@@ -40,24 +49,40 @@ static void open_directory(const char *name) {
     free(path);
 }
 
-/* What stands there may only be a file that a rename can replace: a device, a directory or a link is no copy of anything. */
+/* The mode that a file made by any other program would have. */
+static mode_t usual_mode(void) {
+    mode_t mask = umask(0);
+    umask(mask);
+    return 0666 & ~mask;
+}
+
+/* What stands there may only be a file that a rename can replace: a device, a directory or a link is no copy of anything, and a file that
+ * nobody may write was protected by somebody. The new file takes the older one's mode. */
 static void look_at_older(void) {
     struct stat older;
-    if (fstatat(output.directory, output.base, &older, AT_SYMLINK_NOFOLLOW) == 0) {
-        if (!S_ISREG(older.st_mode))
-            die("%s: is %s: give a file's name for OUTPUT, or - for standard output", output.name,
-                S_ISDIR(older.st_mode)   ? "a directory"
-                : S_ISLNK(older.st_mode) ? "a symbolic link"
-                                         : "no regular file");
-    } else if (errno != ENOENT) {
-        die("%s: %s", output.name, strerror(errno));
+    output.mode = usual_mode();
+    if (fstatat(output.directory, output.base, &older, AT_SYMLINK_NOFOLLOW)) {
+        if (errno != ENOENT)
+            die("%s: %s", output.name, strerror(errno));
+        return;
     }
+    if (!S_ISREG(older.st_mode))
+        die("%s: is %s: give a file's name for OUTPUT, or - for standard output", output.name,
+            S_ISDIR(older.st_mode)   ? "a directory"
+            : S_ISLNK(older.st_mode) ? "a symbolic link"
+                                     : "no regular file");
+    if (!(older.st_mode & WRITERS))
+        die("%s: is there already and is write-protected: give another name for OUTPUT", output.name);
+    output.mode = older.st_mode & PERMISSIONS;
 }
 
 static void open_temporary(void) {
     char name[sizeof output.temporary];
+    struct timespec now;
+    clock_gettime(CLOCK_REALTIME, &now); /* in the name, so that what a killed run left is never in the way */
+    output.file = -1;
     for (unsigned n = 0; output.file < 0; n++) {
-        snprintf(name, sizeof name, ".bumbazeel.%ld.%u", (long)getpid(), n);
+        snprintf(name, sizeof name, ".bumbazeel.%ld.%lld.%09ld.%u", (long)getpid(), (long long)now.tv_sec, now.tv_nsec, n);
         output.file = openat(output.directory, name, O_WRONLY | O_CREAT | O_EXCL | O_CLOEXEC, 0600);
         if (output.file < 0 && (errno != EEXIST || n == 100))
             die("%s: cannot make a file in its directory: %s", output.name, strerror(errno));
@@ -67,7 +92,8 @@ static void open_temporary(void) {
 
 void output_open(const char *name) {
     output.name = name;
-    if (strcmp(name, "-") == 0) {
+    output.standard = strcmp(name, "-") == 0;
+    if (output.standard) {
         if (isatty(STDOUT_FILENO))
             die("standard output is a terminal: give a file's name for OUTPUT, or send - to a file or a program");
         output.file = STDOUT_FILENO;
@@ -81,14 +107,22 @@ void output_open(const char *name) {
     open_temporary();
 }
 
-bool output_waits(void) { return output.file != STDOUT_FILENO; }
+/* Waits a moment for room in an output that does not wait by itself. */
+static void wait_for_room(void) {
+    struct pollfd place = {.fd = output.file, .events = POLLOUT};
+    (void)poll(&place, 1, MOMENT);
+}
 
 static void write_all(const uint8_t *bytes, size_t count) {
     while (count) {
         stop_here();
         ssize_t done = write(output.file, bytes, count < PIECE ? count : PIECE);
-        if (done < 0 && errno != EINTR)
-            die("%s: cannot write: %s", output_waits() ? output.name : "standard output", strerror(errno));
+        if (done < 0 && errno == EAGAIN)
+            wait_for_room();
+        else if (done < 0 && errno != EINTR)
+            die("%s: cannot write: %s: nothing was saved", output_called(), strerror(errno));
+        else if (done == 0)
+            die("%s: cannot write: it takes no more bytes: nothing was saved", output_called());
         if (done > 0) {
             bytes += done;
             count -= (size_t)done;
@@ -96,35 +130,57 @@ static void write_all(const uint8_t *bytes, size_t count) {
     }
 }
 
-/* The mode that a file made by any other program would have. */
-static mode_t usual_mode(void) {
-    mode_t mask = umask(0);
-    umask(mask);
-    return 0666 & ~mask;
+/* A file behind standard output has its bytes on the disk; what a pipe's reader has not taken is not saved. */
+static void flush_standard(void) {
+    struct stat about;
+    int unread = 0;
+    if (fsync(output.file) && errno != EINVAL)
+        die("standard output: cannot write: %s: nothing was saved", strerror(errno));
+    if (fstat(output.file, &about) || !S_ISFIFO(about.st_mode))
+        return;
+    while (ioctl(output.file, FIONREAD, &unread) == 0 && unread > 0) {
+        struct pollfd reader = {.fd = output.file, .events = 0};
+        stop_here();
+        if (poll(&reader, 1, MOMENT) > 0 && reader.revents & POLLERR)
+            die("standard output: its reader is gone and has left %d bytes: nothing was saved", unread);
+    }
 }
 
-void output_save(const uint8_t header[BLOCK], const uint8_t *blocks, size_t bytes) {
-    write_all(header, BLOCK);
-    write_all(blocks, bytes);
-    if (!output_waits())
-        return;
-    (void)fchmod(output.file, usual_mode()); /* a file system without modes has its own */
-    bool kept = fsync(output.file) == 0 && close(output.file) == 0;
+static void close_file(void) {
+    (void)fchmod(output.file, output.mode); /* a file system without modes has its own */
+    bool kept = fsync(output.file) == 0;
     int reason = errno;
+    if (close(output.file) && kept) {
+        kept = false;
+        reason = errno;
+    }
     stop_here();
     if (!kept)
-        die("%s: cannot write: %s", output.name, strerror(reason));
+        die("%s: cannot write: %s: nothing was saved", output.name, strerror(reason));
 }
 
-void output_name(void) {
-    if (!output_waits())
-        return;
-    if (renameat(output.directory, output.temporary, output.directory, output.base)) {
-        char kept[sizeof output.temporary];
-        memcpy(kept, output.temporary, sizeof kept);
-        output.temporary[0] = '\0'; /* after an acknowledgement it is the only copy */
+static void give_name(void) {
+    char kept[sizeof output.temporary];
+    memcpy(kept, output.temporary, sizeof kept);
+    output.temporary[0] = '\0'; /* whole as it is, it is not removed any more */
+    if (renameat(output.directory, kept, output.directory, output.base))
         die("%s: cannot get its name: %s: the whole file is kept beside it as %s", output.name, strerror(errno), kept);
+}
+
+void output_save(const uint8_t *bytes, size_t count) {
+    write_all(bytes, count);
+    if (output.standard) {
+        flush_standard();
+    } else {
+        close_file();
+        give_name();
     }
-    output.temporary[0] = '\0';
-    fsync(output.directory); /* some file systems refuse this: the file stands all the same */
+}
+
+int output_sync_name(void) {
+    if (output.standard || fsync(output.directory) == 0)
+        return 0;
+    if (errno == EINVAL && syncfs(output.directory) == 0) /* a file system that syncs no directories */
+        return 0;
+    return errno;
 }

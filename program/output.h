@@ -2,8 +2,6 @@
 #ifndef OUTPUT_H
 #define OUTPUT_H
 
-#include "numbers.h"
-
 #include <stdbool.h>
 #include <stddef.h>
 #include <stdint.h>
@@ -12,13 +10,14 @@
  * From here on, whatever ends the program leaves no temporary file. */
 void output_open(const char *name);
 
-/* Whether output_save may come before the run's success: the bytes then wait under another name. */
-bool output_waits(void);
+/* Writes the bytes, down to the disk, and gives the file its name, over an older one. To standard output: writes them, and waits until a pipe's
+ * reader has taken them. Dies if that cannot be done. */
+void output_save(const uint8_t *bytes, size_t count);
 
-/* Writes header and blocks, down to the disk. Dies if they cannot be written. */
-void output_save(const uint8_t header[BLOCK], const uint8_t *blocks, size_t bytes);
+/* What the saved file is called in messages. */
+const char *output_called(void);
 
-/* Gives the file its name, over an older one. */
-void output_name(void);
+/* Brings the file's name to the disk too. 0, or the error number. */
+int output_sync_name(void);
 
 #endif

@@ -1,4 +1,8 @@
-/* The run: the library decides every command and the ending; here words are sent and bytes are moved. */
+/* The run: the library decides every command and the ending; here words are sent, bytes are moved and the copy is saved.
+ *
+ * How much room the copy needs is known when a header is there. Setup is a plain function of numbers, so it is asked twice: without room, for the
+ * words of the first command, and again with the room that the header calls for when the command is completed; its first command is the very
+ * one that was sent, so the completion is its own. A header that shows more than there is room for opens a collection in the same way. */
 #include "run.h"
 
 #include "bumbazeel.h"
@@ -6,36 +10,100 @@
 #include "numbers.h"
 #include "output.h"
 #include "progress.h"
+#include "report.h"
 #include "say.h"
+#include "sha256.h"
 #include "stop.h"
 
 #include <stdio.h>
 #include <string.h>
 
-enum { AWAITS_CHUNK = 1, AWAITS_CLOSING_HEADER = 2, AWAITS_ACKNOWLEDGEMENT = 4 }; /* phases of a state */
+enum { AWAITS_FIRST_HEADER = 0, AWAITS_CHUNK = 1, AWAITS_CLOSING_HEADER = 2, AWAITS_ACKNOWLEDGEMENT = 4 }; /* phases of a state */
+enum { GROWTH_PART = 8, LEAST_GROWTH = 128 * BLOCK }; /* what a later attempt may take more */
 
-/* A run under way: `closing` is the latest closing header and `bytes` are those of its attempt's area. With success they are those of the
- * last check, since after it only an acknowledgement may come. */
 struct under_way {
+    struct drive *drive;
+    const struct wish *wish;
     struct bumbazeel_state state;
     struct bumbazeel_next next;
-    uint8_t *copy, *data;
-    uint8_t closing[BLOCK];
-    size_t bytes;
+    uint32_t sent[5];     /* the words of the latest command, */
+    uint8_t *data;        /* and what it brought */
+    uint8_t *image;       /* the file: the latest closing header, then the copy */
+    size_t room, held;    /* bytes of the copy, and those of the image */
+    uint32_t earlier;     /* attempts of this run before this collection */
     uint64_t moved;
-    bool saved;
 };
 
-static void begin(struct under_way *r, const struct drive *drive, const struct wish *wish) {
-    bumbazeel_setup(wish->page, wish->create, wish->area, drive->caps, wish->blocks, wish->attempts, wish->room, &r->state, &r->next);
-    if (r->next.answer == BUMBAZEEL_NO_AREA_4)
-        die("setup is refused: 6 (%s): choose area 1 to 3, or switch ETDAS on in Host Behavior Support if the drive has area 4",
-            meaning(r->next.answer));
+static uint8_t *copy_of(const struct under_way *r) { return r->image + BLOCK; }
+
+static void set_up(struct under_way *r, uint8_t create, size_t room) {
+    const struct wish *w = r->wish;
+    r->room = room;
+    bumbazeel_setup(w->page, create, w->area, r->drive->caps, w->blocks, w->attempts - r->earlier, room, &r->state, &r->next);
+}
+
+/* What the drive lacks that setup asks for. */
+static const char *lacking(uint8_t caps, uint8_t answer) {
+    if (!(caps & BUMBAZEEL_TELEMETRY))
+        return "LPA bit 3 is 0, so it has no telemetry pages";
+    if (!(caps & BUMBAZEEL_EXTENDED))
+        return "LPA bit 2 is 0, so it takes no offset into a page";
+    if (answer == BUMBAZEEL_NO_AREA_4 && !(caps & BUMBAZEEL_DA4S))
+        return "LPA bit 6 is 0, so it has no area 4: choose area 1 to 3";
+    if (answer == BUMBAZEEL_NO_AREA_4)
+        return "the host has not said yes to area 4: choose area 1 to 3, or switch ETDAS on in Host Behavior Support";
+    return "the numbers break its limits";
+}
+
+static void begin(struct under_way *r) {
+    set_up(r, r->wish->create, 0);
     if (r->next.kind == BUMBAZEEL_REFUSED)
-        die("setup is refused: %u (%s): the drive needs extended data and telemetry in LPA bits 2 and 3", r->next.answer,
-            meaning(r->next.answer));
-    r->copy = lazy_bytes(wish->room);
-    r->data = lazy_bytes((size_t)wish->blocks * BLOCK);
+        die("%s: setup is refused: %u (%s): %s", drive_name(r->drive), r->next.answer, meaning(r->next.answer),
+            lacking(r->drive->caps, r->next.answer));
+    r->data = held_bytes((size_t)r->wish->blocks * BLOCK);
+}
+
+static struct bumbazeel_fields fields_of(const struct under_way *r, const uint8_t *header) {
+    struct bumbazeel_fields fields; /* zeros of a bad header */
+    bumbazeel_check(r->wish->page, r->drive->caps & BUMBAZEEL_DA4S, header, BLOCK, &fields);
+    return fields;
+}
+
+/* The bytes that the wanted area of the header just read takes. */
+static size_t needed(const struct under_way *r) { return (size_t)fields_of(r, r->data).last[r->wish->area - 1] * BLOCK; }
+
+static void hold(struct under_way *r, size_t bytes) {
+    if (r->held >= bytes)
+        return;
+    if (r->held)
+        free_bytes(r->image, r->held);
+    r->image = held_bytes(bytes);
+    r->held = bytes;
+}
+
+/* Sets up once more, with room for the header just read, which the drive gave for this very first command. */
+static void make_room(struct under_way *r, uint8_t create) {
+    size_t area = needed(r), room = area + area / GROWTH_PART / BLOCK * BLOCK + LEAST_GROWTH;
+    set_up(r, create, room < r->wish->room ? room : r->wish->room);
+    if (memcmp(r->sent, r->next.words, sizeof r->sent) != 0)
+        die("the collection asks for another command than the one that was sent");
+    hold(r, BLOCK + r->room);
+}
+
+static void take(struct under_way *r, bool ok, size_t bytes) {
+    if (bumbazeel_step(&r->state, ok, r->data, ok ? bytes : 0, copy_of(r), r->room, &r->next) == BUMBAZEEL_REFUSED)
+        die("the collection takes no completion: %u (%s)", r->next.answer, meaning(r->next.answer));
+}
+
+/* The header just read opens the next attempt, with room for it; `failed` attempts of this collection are over. */
+static void open_again(struct under_way *r, uint32_t failed) {
+    r->earlier += failed;
+    if (r->earlier == r->wish->attempts) {
+        r->next = (struct bumbazeel_next){.kind = BUMBAZEEL_ENDED, .answer = BUMBAZEEL_ATTEMPTS_USED_UP};
+        return;
+    }
+    make_room(r, 0);
+    take(r, true, BLOCK);
 }
 
 static size_t transfer_bytes(const uint32_t words[5]) {
@@ -47,59 +115,115 @@ static void list(const uint32_t words[5]) {
            (unsigned)words[4]);
 }
 
-static void save(struct under_way *r) {
-    output_save(r->closing, r->copy, r->bytes);
-    r->saved = true;
-}
-
-/* Sends the command that is awaited, and lets the library take its completion. */
-static void exchange(struct under_way *r, struct drive *drive, const struct wish *wish) {
+/* Sends the command that is awaited, and lets the library take its completion. False: it is not known what the drive did. */
+static bool exchange(struct under_way *r) {
     size_t bytes = transfer_bytes(r->next.words);
     uint8_t phase = r->state.phase;
-    if (phase == AWAITS_CLOSING_HEADER)
-        r->bytes = (size_t)r->state.last[wish->area - 1] * BLOCK;
-    bool ok = drive->send(drive, r->next.words, r->data, bytes);
-    if (ok && phase == AWAITS_CLOSING_HEADER)
-        memcpy(r->closing, r->data, BLOCK);
+    memcpy(r->sent, r->next.words, sizeof r->sent);
+    if (r->wish->list)
+        list(r->sent);
+    report.commands++;
+    enum completion completion = r->drive->send(r->drive, r->sent, r->data, bytes);
+    bool ok = completion == SUCCEEDED;
+    if (completion == LOST)
+        return false;
     if (ok && phase == AWAITS_CHUNK)
         r->moved += bytes;
-    if (bumbazeel_step(&r->state, ok, r->data, ok ? bytes : 0, r->copy, wish->room, &r->next) == BUMBAZEEL_REFUSED)
-        die("the collection takes no completion: %u (%s)", r->next.answer, meaning(r->next.answer));
+    if (ok && phase == AWAITS_CLOSING_HEADER)
+        memcpy(r->image, r->data, BLOCK);
+    if (phase == AWAITS_FIRST_HEADER)
+        make_room(r, r->state.create);
+    take(r, ok, bytes);
+    return true;
 }
 
-/* What the outcome says of the last check is said by the library's own header check. */
-static bool shows_other_area(const struct under_way *r, const struct wish *wish) {
-    struct bumbazeel_fields fields;
-    uint8_t answer = bumbazeel_check(wish->page, r->state.caps & BUMBAZEEL_DA4S, r->closing, BLOCK, &fields);
-    return answer != BUMBAZEEL_SUCCESS || (size_t)fields.last[wish->area - 1] * BLOCK != r->bytes;
+/* Whether the library has just found the copy to be one capture. */
+static bool copy_stands(const struct under_way *r) {
+    bool ended_on_07 = r->wish->page == 7 && r->next.kind == BUMBAZEEL_ENDED && r->next.answer == BUMBAZEEL_SUCCESS;
+    return ended_on_07 || (r->next.kind == BUMBAZEEL_SEND && r->state.phase == AWAITS_ACKNOWLEDGEMENT);
 }
 
-struct outcome run(struct drive *drive, const struct wish *wish) {
-    struct under_way r = {.saved = false};
-    begin(&r, drive, wish);
+/* Whether the closing header shows other last blocks than the header that opened the attempt, though its generation matched: 256 captures came
+ * in between, or the drive emptied its page. Then the copy is of no use, and the attempt has failed. */
+static bool sizes_differ(const struct under_way *r) {
+    struct bumbazeel_fields closing = fields_of(r, r->image);
+    return memcmp(closing.last, r->state.last, sizeof closing.last) != 0;
+}
+
+/* Where the library alone cannot go on. */
+static void go_on(struct under_way *r) {
+    if (copy_stands(r) && sizes_differ(r)) {
+        report.sizes_differ = true;
+        open_again(r, r->state.attempt);
+    } else if (r->next.kind == BUMBAZEEL_ENDED && r->next.answer == BUMBAZEEL_NO_ROOM && needed(r) <= r->wish->room) {
+        open_again(r, r->state.attempt - 1);
+    }
+}
+
+static void save(struct under_way *r) {
+    struct bumbazeel_fields fields = fields_of(r, r->image);
+    uint32_t wanted = fields.last[r->wish->area - 1], greatest = fields.last[3] > fields.last[2] ? fields.last[3] : fields.last[2];
+    size_t bytes = BLOCK * (1 + (size_t)wanted);
+    output_save(r->image, bytes);
+    report.file = output_called();
+    report.bytes = bytes;
+    report.unread = greatest - wanted;
+    report.empty = greatest == 0;
+    if (r->wish->hash)
+        sha256_of(r->image, bytes, report.sha256);
+    int reason = output_sync_name();
+    if (reason)
+        die("the folder of %s cannot be synced: %s: %s", report.file, strerror(reason), report_standing());
+}
+
+/* Sends the acknowledgement, if it is wanted, after the copy is saved. False: the run goes no further. */
+static bool acknowledge(struct under_way *r) {
+    save(r);
+    if (r->wish->acknowledge == NEVER || (r->wish->acknowledge == IF_NOTHING_IS_UNREAD && report.unread))
+        return false;
+    stop_here();
+    report.acknowledgement = NOT_KNOWN;
+    if (!exchange(r))
+        return false;
+    report.acknowledgement = r->next.answer == BUMBAZEEL_SUCCESS ? DONE : REFUSED_BY_DRIVE;
+    report.newer = r->next.newer;
+    return true;
+}
+
+/* Where the run is, for whatever is told of it from here on. */
+static void put_report(const struct under_way *r) {
+    bool used_up = r->next.answer == BUMBAZEEL_ATTEMPTS_USED_UP;
+    report.attempts = used_up ? r->wish->attempts : r->earlier + r->state.attempt;
+    report.failed = used_up ? report.attempts : report.attempts - 1;
+    report.ending = r->next.answer; /* 0 of a run that goes no further than the acknowledgement */
+}
+
+/* The next command. False: the run goes no further. */
+static bool advance(struct under_way *r) {
+    if (r->wish->progress && r->state.phase == AWAITS_FIRST_HEADER && r->wish->create)
+        progress_wait("waiting for the drive to take a capture");
+    if (!exchange(r))
+        return false;
+    go_on(r);
+    put_report(r);
+    if (r->wish->progress)
+        progress_show(&r->state, report.attempts, r->wish->attempts, r->moved);
+    return true;
+}
+
+void run(struct drive *drive, const struct wish *wish) {
+    struct under_way r = {.drive = drive, .wish = wish};
+    bool going = true;
+    begin(&r);
     if (wish->list)
         puts("cdw10 cdw11 cdw12 cdw13 cdw14");
-    while (r.next.kind == BUMBAZEEL_SEND) {
+    while (going && r.next.kind == BUMBAZEEL_SEND) {
         stop_here();
-        if (r.state.phase == AWAITS_ACKNOWLEDGEMENT && output_waits())
-            save(&r); /* the drive may forget its data only when they are on the disk */
-        if (wish->list)
-            list(r.next.words);
-        exchange(&r, drive, wish);
-        if (wish->progress)
-            progress_show(&r.state, r.moved);
+        going = r.state.phase == AWAITS_ACKNOWLEDGEMENT ? acknowledge(&r) : advance(&r);
     }
     progress_hide();
-    bool success = r.next.answer == BUMBAZEEL_SUCCESS;
-    if (success && !r.saved)
+    if (copy_stands(&r) && wish->page == 7)
         save(&r);
-    if (success)
-        output_name();
-    return (struct outcome){.answer = r.next.answer,
-                            .newer = r.next.newer,
-                            .other = success && shows_other_area(&r, wish),
-                            .attempts = r.state.attempt,
-                            .failed = r.state.attempt - (r.next.answer == BUMBAZEEL_ATTEMPTS_USED_UP ? 0 : 1),
-                            .commands = r.next.count,
-                            .bytes = success ? BLOCK + r.bytes : 0};
+    put_report(&r);
+    report.ended = !drive->trouble[0];
 }

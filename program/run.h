@@ -8,25 +8,21 @@
 #include <stddef.h>
 #include <stdint.h>
 
+/* Whether page 08h is acknowledged once its copy is saved. */
+enum acknowledge { IF_NOTHING_IS_UNREAD, ALWAYS, NEVER };
+
 /* What bumbazeel_setup is asked for, and what is shown meanwhile. */
 struct wish {
     uint8_t page, create, area;
     uint32_t blocks, attempts;
-    size_t room;
-    bool list, progress;
+    size_t room; /* the most bytes that the area may take */
+    enum acknowledge acknowledge;
+    bool list, progress, hash;
 };
 
-struct outcome {
-    uint8_t answer; /* the ending */
-    bool newer;     /* a newer capture was acknowledged unread */
-    bool other;     /* the closing header shows another last block of the area than the header that opened the attempt */
-    uint32_t attempts, failed;
-    uint64_t commands;
-    size_t bytes; /* saved: 0 unless the ending is success */
-};
-
-/* Runs the collection to its ending. With success the output has its name; else nothing was saved. Dies if setup refuses the wish or the
- * drive or the output fails. */
-struct outcome run(struct drive *drive, const struct wish *wish);
+/* Runs the collection, and leaves in the report how far it came. Once the copy stands it is saved under its name, on the disk, before an
+ * acknowledgement is sent, and nothing takes it away again. Dies if setup refuses the wish or the output fails. If the drive cannot be
+ * asked, the report has no ending and the drive's `trouble` says why. */
+void run(struct drive *drive, const struct wish *wish);
 
 #endif

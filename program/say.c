@@ -9,32 +9,55 @@
 #include <stdlib.h>
 #include <string.h>
 
-static void line(const char *format, va_list values) {
-    char text[8192];
-    int length = vsnprintf(text, sizeof text, format, values);
-    if (length < 0)
-        return;
+enum { LINE = 8192 };
+
+static void (*at_death)(int status, const char *error);
+
+void make_plain(char *text) {
     for (char *at = text; *at; at++)
         if ((unsigned char)*at < ' ' || *at == 127)
-            *at = '?'; /* a file name must not break the line or steer the terminal */
+            *at = '?';
+}
+
+static void line(char text[LINE], const char *format, va_list values) {
+    if (vsnprintf(text, LINE, format, values) < 0)
+        text[0] = '\0';
+    make_plain(text);
     progress_hide();
     fprintf(stderr, "bumbazeel: %s\n", text);
+}
+
+static _Noreturn void end(int status, const char *format, va_list values) {
+    char text[LINE];
+    void (*tell)(int, const char *) = at_death;
+    line(text, format, values);
+    at_death = NULL; /* what cannot be told is not told again */
+    if (tell)
+        tell(status, text);
+    exit(status);
 }
 
 void die(const char *format, ...) {
     va_list values;
     va_start(values, format);
-    line(format, values);
-    va_end(values);
-    exit(STATUS_TROUBLE);
+    end(STATUS_TROUBLE, format, values);
+}
+
+void die_with(int status, const char *format, ...) {
+    va_list values;
+    va_start(values, format);
+    end(status, format, values);
 }
 
 void say(const char *format, ...) {
+    char text[LINE];
     va_list values;
     va_start(values, format);
-    line(format, values);
+    line(text, format, values);
     va_end(values);
 }
+
+void say_at_death(void (*tell)(int status, const char *error)) { at_death = tell; }
 
 const char *meaning(uint8_t answer) {
     static const char *const meanings[] = {
@@ -57,8 +80,6 @@ const char *meaning(uint8_t answer) {
     };
     return answer < sizeof meanings / sizeof *meanings ? meanings[answer] : "unknown answer";
 }
-
-const char *json_flag(bool value) { return value ? "true" : "false"; }
 
 void close_stdout(const char *aside) {
     int lost = ferror(stdout); /* an earlier line; its reason is gone */

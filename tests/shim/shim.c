@@ -4,10 +4,14 @@
  *   BUMBAZEEL_SHIM=PATH         the device's path (it need not exist); without it nothing is answered here
  *   BUMBAZEEL_SHIM_AREAS=A,B,C,D   last blocks of the four areas (default 2,3,5,9)
  *   BUMBAZEEL_SHIM_MDTS=N       the drive's MDTS (default 5: 128 KiB)
- *   BUMBAZEEL_SHIM_ETDAS=0      the host has said no to area 4 (default 1)
+ *   BUMBAZEEL_SHIM_ETDAS=0      the host has said no to area 4 (default 1); 2: after the first capture was taken
+ *   BUMBAZEEL_SHIM_MCDAS=1      it honours the greatest area that a create wants, as its page 00h says (default 0)
+ *   BUMBAZEEL_SHIM_LPA=N        the LPA that it shows (default 6Ch: extended data, telemetry, page 00h, area 4)
  *   BUMBAZEEL_SHIM_CAPTURE=N    a capture of the page asked for comes right before the N-th Get Log Page
- *   BUMBAZEEL_SHIM_GONE=N       the drive is gone from the N-th Get Log Page on
- *   BUMBAZEEL_SHIM_LOG=FILE     each Get Log Page's five words and answer, a line each
+ *   BUMBAZEEL_SHIM_GONE=N       the drive is gone from the N-th Get Log Page of 07h or 08h on
+ *   BUMBAZEEL_SHIM_FAIL=N,before|after,RESULT   the N-th admin command fails before or after the drive acted: with the error number -RESULT
+ *                               if RESULT is negative, else with this NVMe status
+ *   BUMBAZEEL_SHIM_LOG=FILE     each Get Log Page's five words and answer, and each other command's opcode and answer, a line each
  *
  * 08h has a capture from the start; 07h is empty until a create, whose contents do not depend on who sends it. */
 #define _GNU_SOURCE
@@ -23,6 +27,7 @@
 #include <stdlib.h>
 #include <string.h>
 #include <sys/ioctl.h>
+#include <sys/mman.h>
 #include <sys/stat.h>
 #include <sys/sysmacros.h>
 #include <unistd.h>
@@ -41,7 +46,17 @@ static struct {
     uint8_t reason[REASON];
     unsigned captures;
     long asked, capture_before, gone_from;
+    long admins, fails_at, fails_with;
+    bool fails_after;
 } drive = {.file = -1};
+
+/* The log is mapped before the program starts, so that no failing system call of the program's keeps a command out of it. */
+static struct {
+    int file;
+    char *text;
+    size_t used;
+} record_of_commands = {.file = -1};
+enum { LONGEST_LOG = 64 << 20 };
 
 static long setting(const char *name, long otherwise) {
     const char *text = getenv(name);
@@ -84,6 +99,15 @@ static void take_07(void) {
     must(!bumbazeel_words(7, 1, 0, 1, 0, 1, words) && !command(words, header, sizeof header), "the create is refused");
 }
 
+static void read_failure(void) {
+    const char *text = getenv("BUMBAZEEL_SHIM_FAIL");
+    char when[8] = "";
+    if (!text)
+        return;
+    must(sscanf(text, "%ld,%7[a-z],%li", &drive.fails_at, when, &drive.fails_with) == 3, "BUMBAZEEL_SHIM_FAIL wants N,before|after,RESULT");
+    drive.fails_after = !strcmp(when, "after");
+}
+
 static void get_ready(void) {
     const char *areas = getenv("BUMBAZEEL_SHIM_AREAS");
     uint8_t caps = BUMBAZEEL_EXTENDED | BUMBAZEEL_TELEMETRY | BUMBAZEEL_DA4S;
@@ -91,6 +115,8 @@ static void get_ready(void) {
          "BUMBAZEEL_SHIM_AREAS wants four numbers");
     if (setting("BUMBAZEEL_SHIM_ETDAS", 1))
         caps |= BUMBAZEEL_ETDAS;
+    if (setting("BUMBAZEEL_SHIM_MCDAS", 0))
+        caps |= BUMBAZEEL_MCDAS;
     drive.bytes = (size_t)drive.last[3] * BLOCK;
     drive.host = calloc(1, drive.bytes + 1);
     drive.controller = calloc(1, drive.bytes + 1);
@@ -99,32 +125,76 @@ static void get_ready(void) {
     must(!bumbazeel_fresh(caps, OUI, 1, 1, &drive.record), "the record is refused");
     drive.capture_before = setting("BUMBAZEEL_SHIM_CAPTURE", 0);
     drive.gone_from = setting("BUMBAZEEL_SHIM_GONE", 0);
+    read_failure();
     take_08();
+    if (setting("BUMBAZEEL_SHIM_ETDAS", 1) == 2)
+        drive.record.caps &= (uint8_t)~BUMBAZEEL_ETDAS;
     next_candidate(); /* for a create */
     drive.ready = true;
 }
 
-static void log_command(const uint32_t words[5], unsigned status) {
+__attribute__((constructor)) static void open_log(void) {
     const char *path = getenv("BUMBAZEEL_SHIM_LOG");
-    FILE *log = path ? fopen(path, "a") : NULL;
-    if (!log)
+    if (!path || !getenv("BUMBAZEEL_SHIM"))
         return;
-    fprintf(log, "%08X %08X %08X %08X %08X %04X\n", words[0], words[1], words[2], words[3], words[4], status);
-    fclose(log);
+    record_of_commands.file = open(path, O_RDWR | O_CREAT | O_TRUNC | O_CLOEXEC, 0666);
+    must(record_of_commands.file >= 0 && !ftruncate(record_of_commands.file, LONGEST_LOG), "the log cannot be opened");
+    record_of_commands.text = mmap(NULL, LONGEST_LOG, PROT_READ | PROT_WRITE, MAP_SHARED, record_of_commands.file, 0);
+    must(record_of_commands.text != MAP_FAILED, "the log cannot be mapped");
+}
+
+/* Where the text ends, which other processes of the program may have written. */
+static char *end_of_log(void) {
+    while (record_of_commands.text[record_of_commands.used])
+        record_of_commands.used++;
+    return record_of_commands.text + record_of_commands.used;
+}
+
+/* A process that is killed leaves the zeros behind the text. */
+__attribute__((destructor)) static void close_log(void) {
+    if (record_of_commands.text && ftruncate(record_of_commands.file, end_of_log() - record_of_commands.text))
+        fprintf(stderr, "shim: the log has zeros at its end\n");
+}
+
+static void log_line(const char *format, ...) __attribute__((format(printf, 1, 2)));
+static void log_line(const char *format, ...) {
+    va_list values;
+    if (!record_of_commands.text)
+        return;
+    char *at = end_of_log();
+    must(record_of_commands.used < LONGEST_LOG - 4096, "the log is full");
+    va_start(values, format);
+    vsnprintf(at, 4096, format, values);
+    va_end(values);
+}
+
+/* The page that lists the pages: those that the shim serves, and MCDAS in the entry of 07h. */
+static int get_supported(uint8_t *data, size_t bytes) {
+    memset(data, 0, bytes);
+    for (size_t page = 0; page <= 8 && 4 * page + 2 < bytes; page += page ? 1 : 7)
+        data[4 * page] = 1;
+    if (bytes > 4 * 7 + 2)
+        data[4 * 7 + 2] = drive.record.caps & BUMBAZEEL_MCDAS ? 1 : 0;
+    return 0;
 }
 
 static int get_log_page(const uint32_t words[5], uint8_t *data, size_t bytes) {
+    uint8_t page = words[0] & 0xFF;
+    if (page == 0) {
+        log_line("page 00h 0000\n");
+        return get_supported(data, bytes);
+    }
     drive.asked++;
     if (drive.gone_from && drive.asked >= drive.gone_from) {
         errno = ENODEV;
         return -1;
     }
     if (drive.asked == drive.capture_before)
-        (words[0] & 0xFF) == 8 ? take_08() : take_07();
+        page == 8 ? take_08() : take_07();
     uint8_t answer = command(words, data, bytes);
     uint16_t status = bumbazeel_status(answer);
     must(status != 0xFFFF, "the controller is lent too little");
-    log_command(words, status);
+    log_line("%08X %08X %08X %08X %08X %04X\n", words[0], words[1], words[2], words[3], words[4], status);
     return status;
 }
 
@@ -139,7 +209,8 @@ static int identify(uint32_t what, uint8_t *data, size_t bytes) {
     data[74] = OUI >> 8 & 0xFF;
     data[75] = OUI >> 16;
     data[77] = (uint8_t)setting("BUMBAZEEL_SHIM_MDTS", 5);
-    data[261] = 1 << 2 | 1 << 3 | 1 << 6;
+    data[261] = (uint8_t)setting("BUMBAZEEL_SHIM_LPA", 1 << 2 | 1 << 3 | 1 << 5 | 1 << 6);
+    log_line("Identify 0000\n");
     return 0;
 }
 
@@ -148,10 +219,11 @@ static int get_features(uint32_t what, uint8_t *data, size_t bytes) {
         return INVALID_FIELD;
     memset(data, 0, bytes);
     data[1] = drive.record.caps & BUMBAZEEL_ETDAS ? 1 : 0;
+    log_line("feature 16h 0000\n");
     return 0;
 }
 
-static int admin(struct nvme_admin_cmd *c) {
+static int serve(struct nvme_admin_cmd *c) {
     uint8_t *data = (uint8_t *)(uintptr_t)c->addr;
     const uint32_t words[5] = {c->cdw10, c->cdw11, c->cdw12, c->cdw13, c->cdw14};
     switch (c->opcode) {
@@ -160,6 +232,17 @@ static int admin(struct nvme_admin_cmd *c) {
     case GET_FEATURES: return get_features(c->cdw10 & 0xFF, data, c->data_len);
     default: return INVALID_OPCODE;
     }
+}
+
+static int admin(struct nvme_admin_cmd *c) {
+    bool fails = ++drive.admins == drive.fails_at;
+    int status = fails && !drive.fails_after ? 0 : serve(c);
+    if (!fails)
+        return status;
+    log_line("failed %s the drive acted\n", drive.fails_after ? "after" : "before");
+    if (drive.fails_with < 0)
+        errno = (int)-drive.fails_with;
+    return drive.fails_with < 0 ? -1 : (int)drive.fails_with;
 }
 
 /* ---- what the program calls */

@@ -1,0 +1,191 @@
+/* The command line of `bumbazeel collect`. */
+#include "collect_options.h"
+
+#include "arguments.h"
+#include "numbers.h"
+#include "say.h"
+
+#include <stdio.h>
+#include <stdlib.h>
+#include <string.h>
+#include <unistd.h>
+
+static const uint8_t EVERY_CAP = BUMBAZEEL_EXTENDED | BUMBAZEEL_TELEMETRY | BUMBAZEEL_DA4S | BUMBAZEEL_ETDAS | BUMBAZEEL_MCDAS;
+
+static const char help[] = "usage: bumbazeel collect [OPTIONS] OUTPUT\n"
+                           "\n"
+                           "Collects a telemetry page from a drive and saves it in the file OUTPUT (- for\n"
+                           "standard output): the header, then the blocks of the wanted area, all of one\n"
+                           "capture. OUTPUT is written whole or not at all.\n"
+                           "\n"
+                           "  --page 07h|08h        host-initiated or controller-initiated (07h)\n"
+                           "  --create              let the drive take a new capture first (07h)\n"
+                           "  --area 1..4           the wanted area (the greatest that the drive gives)\n"
+                           "  --acknowledge         acknowledge page 08h even if it holds more than the area\n"
+                           "  --keep                never acknowledge page 08h\n"
+                           "  --blocks N            blocks a command, 1 to 8192 (128)\n"
+                           "  --attempts N          attempts if newer captures come, 1 to 256 (5)\n"
+                           "  --room BYTES          the most that the area may take, a multiple of 512\n"
+                           "                        (all that the area can have)\n"
+                           "  --device PATH         collect from this drive, such as /dev/nvme0, and not\n"
+                           "                        from the embedded one\n"
+                           "  --list                print the commands sent\n"
+                           "  --json                print the outcome as one JSON object\n"
+                           "  --quiet               say nothing of a plain success\n"
+                           "\n"
+                           "The embedded drive, to rehearse with:\n"
+                           "  --seed N              what its captures hold is made from N (1)\n"
+                           "  --drive-areas A1,A2,A3,A4\n"
+                           "                        last blocks of its captures (8,24,64,128)\n"
+                           "  --drive-no-area4      it has no area 4\n"
+                           "  --drive-no-etdas      it has, but the host has not said yes to it\n"
+                           "  --drive-no-mcda       it does not honour the greatest area wanted\n"
+                           "  --drive-generation N  its generation at the start, 0 to 255 (1)\n"
+                           "  --drive-empty         it holds no capture at the start\n"
+                           "  --capture-before N[:A1,A2,A3,A4]\n"
+                           "                        a capture comes right before the run's command N\n"
+                           "  --clear-before N      another host acknowledges before command N (08h)\n"
+                           "  --refuse N            command N is refused, as by a broken drive\n"
+                           "The last three may be given more than once and happen in their order.\n";
+
+static struct happening *add_happening(struct collect_options *o, const char *option) {
+    struct happening *all = realloc(o->drive.happenings, (o->drive.count + 1) * sizeof *all);
+    if (!all)
+        die("no memory for %s", option);
+    o->drive.happenings = all;
+    return &all[o->drive.count++];
+}
+
+/* N, or N:A1,A2,A3,A4 for a capture. */
+static void read_happening(struct collect_options *o, const char *option, enum what what, const char *value) {
+    const char *colon = what == CAPTURE ? strchr(value, ':') : NULL;
+    char *number = colon ? strndup(value, (size_t)(colon - value)) : strdup(value);
+    struct happening *h = add_happening(o, option);
+    if (!number)
+        die("no memory for %s", option);
+    *h = (struct happening){.what = what, .before = (uint32_t)number_of(option, number, 1, UINT32_MAX)};
+    free(number);
+    if (colon)
+        areas_of(option, colon + 1, h->areas);
+    else
+        h->areas[3] = UINT32_MAX; /* as --drive-areas, which may come later */
+}
+
+static bool read_embedded_option(struct collect_options *o, struct arguments *a) {
+    const char *value;
+    if (argument_value(a, "--seed", &value))
+        o->drive.seed = number_of("--seed", value, 0, UINT64_MAX);
+    else if (argument_value(a, "--drive-areas", &value))
+        areas_of("--drive-areas", value, o->drive.areas);
+    else if (argument_flag(a, "--drive-no-area4"))
+        o->drive.caps &= (uint8_t)~(BUMBAZEEL_DA4S | BUMBAZEEL_ETDAS);
+    else if (argument_flag(a, "--drive-no-etdas"))
+        o->drive.caps &= (uint8_t)~BUMBAZEEL_ETDAS;
+    else if (argument_flag(a, "--drive-no-mcda"))
+        o->drive.caps &= (uint8_t)~BUMBAZEEL_MCDAS;
+    else if (argument_value(a, "--drive-generation", &value))
+        o->drive.generation = (uint8_t)number_of("--drive-generation", value, 0, 255);
+    else if (argument_flag(a, "--drive-empty"))
+        o->drive.empty = true;
+    else if (argument_value(a, "--capture-before", &value))
+        read_happening(o, "--capture-before", CAPTURE, value);
+    else if (argument_value(a, "--clear-before", &value))
+        read_happening(o, "--clear-before", CLEAR, value);
+    else if (argument_value(a, "--refuse", &value))
+        read_happening(o, "--refuse", REFUSAL, value);
+    else
+        return false;
+    return true;
+}
+
+static bool read_option(struct collect_options *o, struct arguments *a) {
+    const char *value;
+    if (argument_value(a, "--page", &value))
+        o->wish.page = page_of("--page", value);
+    else if (argument_flag(a, "--create"))
+        o->wish.create = 1;
+    else if (argument_value(a, "--area", &value))
+        o->wish.area = (uint8_t)number_of("--area", value, 1, 4);
+    else if (argument_value(a, "--blocks", &value))
+        o->wish.blocks = (uint32_t)number_of("--blocks", value, 1, MOST_BLOCKS);
+    else if (argument_value(a, "--attempts", &value))
+        o->wish.attempts = (uint32_t)number_of("--attempts", value, 1, MOST_ATTEMPTS);
+    else if (argument_value(a, "--room", &value)) {
+        o->wish.room = (size_t)number_of("--room", value, 0, MOST_ROOM);
+        o->room_given = true;
+    } else if (argument_value(a, "--device", &value))
+        o->device = value;
+    else if (argument_flag(a, "--acknowledge"))
+        o->wish.acknowledge = ALWAYS;
+    else if (argument_flag(a, "--keep"))
+        o->wish.acknowledge = NEVER;
+    else if (argument_flag(a, "--list"))
+        o->wish.list = true;
+    else if (argument_flag(a, "--json"))
+        o->json = true;
+    else if (argument_flag(a, "--quiet"))
+        o->quiet = true;
+    else
+        return false;
+    return true;
+}
+
+/* What no option alone can tell. */
+static void judge(struct collect_options *o) {
+    if (!o->output)
+        die("collect needs OUTPUT, a file's name or - (bumbazeel collect --help)");
+    if (o->wish.create && o->wish.page == 8)
+        die("--create is for page 07h: a drive takes 08h captures by itself");
+    if (o->wish.acknowledge == ALWAYS && o->wish.page == 7)
+        die("--acknowledge is for page 08h: nobody acknowledges 07h");
+    if (o->wish.room % BLOCK)
+        die("--room %zu is not a multiple of 512", o->wish.room);
+    if (o->device && o->embedded_only)
+        die("%s is for the embedded drive: leave it out with --device", o->embedded_only);
+    if (strcmp(o->output, "-") == 0 && (o->wish.list || o->json))
+        die("--list and --json need standard output: give a file's name for OUTPUT");
+    if (o->wish.page == 8 && !o->drive.areas[2])
+        die("--drive-areas: a capture on page 08h has a block in area 3 or it is none");
+}
+
+/* What no happening alone can tell. */
+static void judge_happening(const struct collect_options *o, const struct happening *h) {
+    if (h->what == CLEAR && o->wish.page == 7)
+        die("--clear-before is for page 08h: nobody acknowledges 07h");
+    if (h->what == CAPTURE && o->wish.page == 8 && !h->areas[2])
+        die("--capture-before: a capture on page 08h has a block in area 3 or it is none");
+}
+
+/* What one option leaves to another. */
+static void complete(struct collect_options *o) {
+    o->wish.hash = o->json;
+    bool listing_in_view = o->wish.list && isatty(STDOUT_FILENO); /* it shows the progress, line by line */
+    o->wish.progress = !o->quiet && !listing_in_view && isatty(STDERR_FILENO);
+    for (size_t i = 0; i < o->drive.count; i++) {
+        struct happening *h = &o->drive.happenings[i];
+        if (h->areas[3] == UINT32_MAX)
+            memcpy(h->areas, o->drive.areas, sizeof h->areas);
+        judge_happening(o, h);
+    }
+}
+
+struct collect_options collect_options_of(char **words) {
+    struct collect_options o = {.wish = {.page = 7, .blocks = 128, .attempts = 5},
+                        .drive = {.seed = 1, .areas = {8, 24, 64, 128}, .caps = EVERY_CAP, .generation = 1}};
+    struct arguments a = arguments_of("collect", words);
+    while (argument_next(&a)) {
+        const char *word = a.word;
+        if (argument_flag(&a, "--help")) {
+            fputs(help, stdout);
+            close_stdout("");
+            exit(STATUS_SUCCESS);
+        }
+        if (read_embedded_option(&o, &a))
+            o.embedded_only = word;
+        else if (!read_option(&o, &a))
+            argument_operand(&a, "OUTPUT", &o.output);
+    }
+    judge(&o);
+    complete(&o);
+    return o;
+}

@@ -1,0 +1,44 @@
+/* What is known of the collection so far: whatever ends the program, it is told from here, as a line and as JSON. A program has one. */
+#ifndef REPORT_H
+#define REPORT_H
+
+#include "drive.h"
+
+#include <stdbool.h>
+#include <stddef.h>
+#include <stdint.h>
+#include <time.h>
+
+enum acknowledgement { NOT_SENT, DONE, REFUSED_BY_DRIVE, NOT_KNOWN };
+
+struct report {
+    time_t began;
+    const struct drive *drive; /* NULL before it is open */
+    uint8_t page, area;        /* area 0: not yet known */
+    bool create;
+    bool ended;                /* the collection has an ending, which is `ending` */
+    uint8_t ending;
+    uint32_t attempts, failed;
+    uint64_t commands; /* Get Log Pages of the page collected that were sent */
+    bool newer;        /* a newer capture was acknowledged unread */
+    bool sizes_differ; /* an attempt failed because its closing header showed other last blocks under the same generation */
+    enum acknowledgement acknowledgement;
+    uint32_t unread;   /* blocks of the page above the area, which keep it from being acknowledged */
+    bool empty;        /* the page has no blocks at all */
+    const char *file;  /* where it is saved, whole; NULL: nowhere */
+    size_t bytes;      /* saved */
+    char sha256[65];   /* of them; "": not asked for, or there is nobody to ask */
+};
+
+extern struct report report;
+
+/* What stands now, as the second half of a message: what is saved, and what became of the acknowledgement. */
+const char *report_standing(void);
+
+/* Tells the ending in one line. */
+void report_line(void);
+
+/* Prints the whole report as one JSON object; `error` is the line that was said, or NULL. */
+void report_json(int status, const char *error);
+
+#endif
