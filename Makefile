@@ -1,8 +1,10 @@
 # make           builds the library, static and shared, and the program, in build/
-# make install   puts them in place, with header, pkg-config file and man page (PREFIX=/usr/local DESTDIR=)
+# make install   puts them in place, with header, pkg-config file, man page and bash completion (PREFIX=/usr/local DESTDIR=)
+# make uninstall takes them away again
 # make test      proves every crate from nothing, tries the must-fail edits, runs the programs and the outside comparisons
 # make sanitize  runs the program's tests with the address and undefined-behaviour sanitizers
 # make valgrind  runs the program's tests under valgrind
+# make faults    lets collections meet every fault, one at a time: failing system calls and commands, signals (some minutes)
 # make fuzz      calls the library with whatever a fuzzer thinks of, for ten minutes (SECONDS=600)
 # make demo      shows a collection that a capture interrupts
 # make bench     measures serving and collecting against memcpy and against nvme-cli, as ratios in one run (BENCH_MIB=512)
@@ -17,8 +19,9 @@ BINDIR ?= $(PREFIX)/bin
 LIBDIR ?= $(PREFIX)/lib
 INCLUDEDIR ?= $(PREFIX)/include
 MANDIR ?= $(PREFIX)/share/man
+COMPLETIONDIR ?= $(PREFIX)/share/bash-completion/completions
 
-.PHONY: all install test sanitize valgrind fuzz demo bench clean
+.PHONY: all install uninstall faults test sanitize valgrind fuzz demo bench clean
 .DEFAULT_GOAL := all
 .DELETE_ON_ERROR:
 
@@ -69,6 +72,13 @@ install: all
 		program/bumbazeel.pc.in >build/bumbazeel.pc
 	$(INSTALL) -m 644 build/bumbazeel.pc $(DESTDIR)$(LIBDIR)/pkgconfig/bumbazeel.pc
 	$(INSTALL) -m 644 program/bumbazeel.1 $(DESTDIR)$(MANDIR)/man1/bumbazeel.1
+	$(INSTALL) -d $(DESTDIR)$(COMPLETIONDIR)
+	$(INSTALL) -m 644 program/completion.bash $(DESTDIR)$(COMPLETIONDIR)/bumbazeel
+
+uninstall:
+	rm -f $(DESTDIR)$(BINDIR)/bumbazeel $(DESTDIR)$(INCLUDEDIR)/bumbazeel.h $(DESTDIR)$(LIBDIR)/libbumbazeel.a \
+		$(DESTDIR)$(LIBDIR)/libbumbazeel.so $(DESTDIR)$(LIBDIR)/$(SONAME) $(DESTDIR)$(LIBDIR)/libbumbazeel.so.$(VERSION) \
+		$(DESTDIR)$(LIBDIR)/pkgconfig/bumbazeel.pc $(DESTDIR)$(MANDIR)/man1/bumbazeel.1 $(DESTDIR)$(COMPLETIONDIR)/bumbazeel
 
 test:
 	@tests/run
@@ -84,6 +94,9 @@ sanitize: build/libbumbazeel.a
 valgrind: build/bumbazeel
 	@BUMBAZEEL=tests/valgrind tests/outside/program
 	@BUMBAZEEL=tests/valgrind tests/outside/device
+
+faults: build/bumbazeel build/shim.so
+	@tests/outside/faults --all
 
 # libFuzzer comes with clang. What it finds is in build/fuzz/.
 SECONDS ?= 600

@@ -4,7 +4,7 @@
 #include "numbers.h"
 #include "say.h"
 
-#include <stddef.h>
+#include <stdlib.h>
 #include <string.h>
 
 struct arguments arguments_of(const char *command, char **words) {
@@ -23,41 +23,59 @@ bool argument_next(struct arguments *a) {
     return a->word != NULL;
 }
 
-/* What follows the option's name in the argument: "" or "=value"; NULL if it is not this option. */
-static const char *after_name(const struct arguments *a, const char *name) {
-    size_t length = strlen(name);
-    if (a->operands || strncmp(a->word, name, length) != 0)
-        return NULL;
-    return a->word[length] == '\0' || a->word[length] == '=' ? a->word + length : NULL;
-}
-
-bool argument_flag(const struct arguments *a, const char *name) {
-    const char *rest = after_name(a, name);
-    if (rest && *rest)
-        die("%s takes no value", name);
-    return rest != NULL;
-}
-
-bool argument_value(struct arguments *a, const char *name, const char **value) {
-    const char *rest = after_name(a, name);
-    if (!rest)
+/* Whether the argument is this one name, "--name" or "-n". What follows it in the same word is then *rest: a long name's value follows '='. */
+static bool is_name(const char *word, const char *name, size_t length, const char **rest) {
+    if (strncmp(word, name, length) != 0)
         return false;
-    *value = *rest ? rest + 1 : *a->next;
+    *rest = word + length;
+    return length == 2 || word[length] == '\0' || word[length] == '=';
+}
+
+/* Whether the argument is one of the names, which `|` parts; then *length is the name's. */
+static bool is_option(const struct arguments *a, const char *names, size_t *length, const char **rest) {
+    for (const char *name = names; !a->operands && *name; name += *length + (name[*length] == '|')) {
+        *length = strcspn(name, "|");
+        if (is_name(a->word, name, *length, rest))
+            return true;
+    }
+    return false;
+}
+
+bool argument_flag(const struct arguments *a, const char *names) {
+    const char *rest;
+    size_t length;
+    if (!is_option(a, names, &length, &rest))
+        return false;
+    if (*rest)
+        die("%.*s takes no value", (int)length, a->word);
+    return true;
+}
+
+bool argument_value(struct arguments *a, const char *names, const char **value) {
+    const char *rest;
+    size_t length;
+    if (!is_option(a, names, &length, &rest))
+        return false;
+    *value = !*rest ? *a->next : length == 2 ? rest : rest + 1;
     if (!*value)
-        die("%s needs a value (bumbazeel %s --help)", name, a->command);
+        die("%s needs a value (bumbazeel %s --help)", a->word, a->command);
     if (!*rest)
         a->next++;
     return true;
 }
 
-void argument_operand(const struct arguments *a, const char *what, const char **operand) {
+const char *argument_operand(const struct arguments *a) {
     if (!a->operands && a->word[0] == '-' && a->word[1])
         die("unknown option '%s' (bumbazeel %s --help lists them)", a->word, a->command);
-    if (!what)
-        die("'%s' is one word too many: %s takes options alone", a->word, a->command);
-    if (*operand)
-        die("'%s' is one word too many: %s takes one %s", a->word, a->command, what);
-    *operand = a->word;
+    return a->word;
+}
+
+void operands_add(struct operands *all, const char *name) {
+    const char **names = realloc(all->names, (all->count + 1) * sizeof *names);
+    if (!names)
+        die("no memory for '%s'", name);
+    all->names = names;
+    all->names[all->count++] = name;
 }
 
 static int digit_of(char c, unsigned base) {

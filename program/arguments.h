@@ -1,9 +1,10 @@
-/* A command's arguments, read from left to right. Options are `--name`, `--name value` and `--name=value`; `--` ends them. Whatever is
- * wrong ends the program with one line. */
+/* A command's arguments, read from left to right. Options are `--name`, `--name value` and `--name=value`, or `-n`, `-n value` and `-nvalue`;
+ * `--` ends them. An option that has several names has them as "--name|-n". Whatever is wrong ends the program with one line. */
 #ifndef ARGUMENTS_H
 #define ARGUMENTS_H
 
 #include <stdbool.h>
+#include <stddef.h>
 #include <stdint.h>
 
 struct arguments {
@@ -19,13 +20,21 @@ struct arguments arguments_of(const char *command, char **words);
 bool argument_next(struct arguments *a);
 
 /* Whether the argument is this option, which has no value. */
-bool argument_flag(const struct arguments *a, const char *name);
+bool argument_flag(const struct arguments *a, const char *names);
 
 /* Whether the argument is this option, which has a value; then *value is it. */
-bool argument_value(struct arguments *a, const char *name, const char **value);
+bool argument_value(struct arguments *a, const char *names, const char **value);
 
-/* The argument as the command's one operand: dies if it is an option or if there is one already. */
-void argument_operand(const struct arguments *a, const char *what, const char **operand);
+/* The argument as an operand: dies if it is an option. */
+const char *argument_operand(const struct arguments *a);
+
+/* Operands in their order. */
+struct operands {
+    const char **names;
+    size_t count;
+};
+
+void operands_add(struct operands *all, const char *name);
 
 /* A number of `least` to `most`, decimal or 0x and hexadecimal digits, and nothing else in the word. */
 uint64_t number_of(const char *option, const char *text, uint64_t least, uint64_t most);

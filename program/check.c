@@ -3,6 +3,7 @@
 
 #include "arguments.h"
 #include "bumbazeel.h"
+#include "each.h"
 #include "json.h"
 #include "numbers.h"
 #include "say.h"
@@ -18,22 +19,24 @@
 enum { ROW = 16 }; /* bytes of the reason in a line */
 static const uint64_t LONGEST = BLOCK * (1 + (uint64_t)LAST_OF_AREA_4); /* a header and the largest area 4 */
 
-static const char help[] = "usage: bumbazeel check [OPTIONS] FILE\n"
+static const char help[] = "usage: bumbazeel check [OPTIONS] FILE...\n"
                            "\n"
-                           "Shows the header of a saved telemetry page, the first 512 bytes of FILE, and\n"
-                           "which areas the file holds whole.\n"
+                           "Shows the header of a saved telemetry page, the first 512 bytes of FILE (- for\n"
+                           "standard input), and which areas its length fits. Of several files it shows a\n"
+                           "line each, and counts them.\n"
                            "\n"
                            "  --page 07h|08h  the page it must be (by default as its first byte says)\n"
                            "  --area4         the drive has area 4 (DA4S 1)\n"
                            "  --no-area4      the drive has none (by default whichever makes it good)\n"
-                           "  --json          print one JSON object\n";
+                           "  --json          print one JSON object a file\n"
+                           "  -h, --help      this text\n";
 
-struct options {
-    const char *file;
+static struct {
+    struct operands files;
     uint8_t page; /* 0: by the first byte */
     enum { EITHER, WITH_AREA_4, WITHOUT_AREA_4 } area_4;
     bool json;
-};
+} options;
 
 struct saved {
     uint8_t header[BLOCK];
@@ -46,34 +49,29 @@ struct finding {
     uint8_t answer;
     bool da4s;
     unsigned areas; /* that the header speaks of: 3 or 4 */
-    unsigned whole; /* the areas 1 to this one are in the file */
-    bool fits;      /* the file ends with the last block of the area `whole` */
+    unsigned held;  /* the file is long enough for the areas 1 to this one */
+    bool fits;      /* and ends with the last block of that one */
 };
 
-static struct options read_options(char **words) {
-    struct options o = {.area_4 = EITHER};
+static void read_options(char **words) {
     struct arguments a = arguments_of("check", words);
     const char *value;
     while (argument_next(&a)) {
-        if (argument_flag(&a, "--help")) {
-            fputs(help, stdout);
-            close_stdout("");
-            exit(STATUS_SUCCESS);
-        }
+        if (argument_flag(&a, "--help|-h"))
+            print_help(help);
         if (argument_value(&a, "--page", &value))
-            o.page = page_of("--page", value);
+            options.page = page_of("--page", value);
         else if (argument_flag(&a, "--area4"))
-            o.area_4 = WITH_AREA_4;
+            options.area_4 = WITH_AREA_4;
         else if (argument_flag(&a, "--no-area4"))
-            o.area_4 = WITHOUT_AREA_4;
+            options.area_4 = WITHOUT_AREA_4;
         else if (argument_flag(&a, "--json"))
-            o.json = true;
+            options.json = true;
         else
-            argument_operand(&a, "FILE", &o.file);
+            operands_add(&options.files, argument_operand(&a));
     }
-    if (!o.file)
+    if (!options.files.count)
         die("check needs FILE, a saved telemetry page (bumbazeel check --help)");
-    return o;
 }
 
 /* Reads up to `bytes` bytes; fewer at the end of the file. */
@@ -94,7 +92,7 @@ static size_t read_some(int file, const char *name, uint8_t *to, size_t bytes) {
 static struct saved read_saved(const char *name) {
     struct saved saved = {.bytes = 0};
     struct stat about;
-    int file = open(name, O_RDONLY | O_CLOEXEC);
+    int file = strcmp(name, "-") == 0 ? STDIN_FILENO : open(name, O_RDONLY | O_CLOEXEC);
     if (file < 0 || fstat(file, &about))
         die("%s: cannot open: %s", name, strerror(errno));
     saved.bytes = saved.header_bytes = read_some(file, name, saved.header, BLOCK);
@@ -107,11 +105,11 @@ static struct saved read_saved(const char *name) {
     return saved;
 }
 
-static struct finding find(const struct options *o, const struct saved *saved) {
-    struct finding f = {.da4s = o->area_4 != WITHOUT_AREA_4};
-    uint8_t page = o->page ? o->page : saved->header[0];
+static struct finding find(const struct saved *saved) {
+    struct finding f = {.da4s = options.area_4 != WITHOUT_AREA_4};
+    uint8_t page = options.page ? options.page : saved->header[0];
     f.answer = bumbazeel_check(page, f.da4s, saved->header, saved->header_bytes, &f.fields);
-    if (f.answer && o->area_4 == EITHER) {
+    if (f.answer && options.area_4 == EITHER) {
         f.da4s = false;
         f.answer = bumbazeel_check(page, f.da4s, saved->header, saved->header_bytes, &f.fields);
     }
@@ -119,7 +117,7 @@ static struct finding find(const struct options *o, const struct saved *saved) {
     for (unsigned area = 1; area <= f.areas; area++) {
         uint64_t end = BLOCK * (1 + (uint64_t)f.fields.last[area - 1]);
         if (f.answer == BUMBAZEEL_SUCCESS && saved->bytes >= end) {
-            f.whole = area;
+            f.held = area;
             f.fits = saved->bytes == end;
         }
     }
@@ -150,25 +148,43 @@ static void print_reason(const uint8_t reason[REASON]) {
     }
 }
 
+/* "areas 1 to 3", the areas that the file is long enough for. */
+static void print_held(const struct finding *f) {
+    if (f->held == 0)
+        printf("no area");
+    else if (f->held == 1)
+        printf("area 1");
+    else
+        printf("areas 1 to %u", f->held);
+}
+
+/* Only the length is known here: a file does not say whether it is of one capture. */
 static void print_length(const struct finding *f, const struct saved *saved) {
-    printf("%-24s", "file");
     if (saved->bytes > LONGEST)
         printf("longer than any telemetry page, ");
     else
         printf("%llu bytes, ", (unsigned long long)saved->bytes);
-    printf(f->fits ? "fits: " : "does not fit: ");
-    if (f->whole == 0)
-        printf("no area");
-    else if (f->whole == 1)
-        printf("area 1");
-    else
-        printf("areas 1 to %u", f->whole);
-    printf(" whole");
-    if (!f->fits && f->whole == f->areas)
-        printf(", and more behind");
-    else if (!f->fits && f->whole)
-        printf(", area %u not", f->whole + 1);
+    printf(f->fits ? "length fits " : "length does not fit: it has ");
+    print_held(f);
+    if (!f->fits && f->held == f->areas)
+        printf(" and more behind");
+    else if (!f->fits && f->held)
+        printf(", and area %u not to its end", f->held + 1);
     putchar('\n');
+}
+
+/* One file of several in a line. */
+static void print_line(const char *name, const struct finding *f, const struct saved *saved) {
+    char plain[4096];
+    snprintf(plain, sizeof plain, "%s", name);
+    make_plain(plain);
+    printf("%s: ", plain);
+    if (f->answer) {
+        printf("%u (%s)\n", f->answer, meaning(f->answer));
+        return;
+    }
+    printf("%02Xh, generation %u, ", f->fields.page, f->fields.page == 7 ? f->fields.host_generation : f->fields.controller_generation);
+    print_length(f, saved);
 }
 
 static void print_table(const struct finding *f, const struct saved *saved) {
@@ -184,39 +200,68 @@ static void print_table(const struct finding *f, const struct saved *saved) {
     printf("%-24s%u\n", "controller generation", h->controller_generation);
     printf("%-24s%s\n", "08h data available", h->available ? "yes" : "no");
     print_reason(h->reason);
+    printf("%-24s", "file");
     print_length(f, saved);
 }
 
-static void print_json(const struct finding *f, const struct saved *saved) {
+static void print_fields(const struct finding *f) {
     const struct bumbazeel_fields *h = &f->fields;
-    printf("{\"answer\": %u, \"meaning\": \"%s\"", f->answer, meaning(f->answer));
-    if (f->answer == BUMBAZEEL_SUCCESS) {
-        printf(", \"page\": \"%02Xh\", \"oui\": \"%06X\", \"scope\": %u, \"scope_name\": \"%s\", \"da4s\": %s", h->page, (unsigned)h->oui,
-               h->scope, scope_name(h->scope), json_flag(f->da4s));
-        printf(", \"last_blocks\": [%u, %u, %u, %u]", (unsigned)h->last[0], (unsigned)h->last[1], (unsigned)h->last[2],
-               (unsigned)h->last[3]);
-        if (h->page == 7)
-            printf(", \"host_generation\": %u", h->host_generation);
-        printf(", \"controller_generation\": %u, \"available\": %s, \"reason\": \"", h->controller_generation, json_flag(h->available));
-        for (size_t i = 0; i < REASON; i++)
-            printf("%02X", h->reason[i]);
-        printf("\", \"file_bytes\": %llu, \"areas_whole\": %u, \"length_fits\": %s", (unsigned long long)saved->bytes, f->whole,
-               json_flag(f->fits));
-    }
-    printf("}\n");
+    printf(", \"page\": \"%02Xh\", \"oui\": \"%06X\", \"scope\": %u, \"scope_name\": \"%s\", \"da4s\": %s", h->page, (unsigned)h->oui, h->scope,
+           scope_name(h->scope), json_flag(f->da4s));
+    printf(", \"last_blocks\": [%u, %u, %u, %u]", (unsigned)h->last[0], (unsigned)h->last[1], (unsigned)h->last[2], (unsigned)h->last[3]);
+    if (h->page == 7)
+        printf(", \"host_generation\": %u", h->host_generation);
+    printf(", \"controller_generation\": %u, \"available\": %s, \"reason\": \"", h->controller_generation, json_flag(h->available));
+    for (size_t i = 0; i < REASON; i++)
+        printf("%02X", h->reason[i]);
+    putchar('"');
 }
 
-int check_command(char **words) {
-    struct options o = read_options(words);
-    struct saved saved = read_saved(o.file);
-    struct finding f = find(&o, &saved);
-    if (o.json)
-        print_json(&f, &saved);
+static int status_of(const struct finding *f) { return f->answer ? f->answer : f->fits ? STATUS_SUCCESS : STATUS_OTHER_LENGTH; }
+
+static void print_json(const char *name, const struct finding *f, const struct saved *saved) {
+    printf("{\"status\": %d, \"error\": null, \"file\": ", status_of(f));
+    json_string(name);
+    printf(", \"answer\": %u, \"meaning\": ", f->answer);
+    json_string(meaning(f->answer));
+    if (f->answer == BUMBAZEEL_SUCCESS)
+        print_fields(f);
+    printf(", \"file_bytes\": %llu, \"areas_held\": %u, \"length_fits\": %s}\n", (unsigned long long)saved->bytes, f->held, json_flag(f->fits));
+}
+
+static int check_file(const char *name) {
+    struct saved saved = read_saved(name);
+    struct finding f = find(&saved);
+    say_at_death(NULL); /* its object is the one that is printed here */
+    if (options.json)
+        print_json(name, &f, &saved);
+    else if (options.files.count > 1)
+        print_line(name, &f, &saved);
     else if (f.answer == BUMBAZEEL_SUCCESS)
         print_table(&f, &saved);
     else
         printf("%-24s%u (%s)\n", "header", f.answer, meaning(f.answer));
-    say_at_death(NULL); /* its object is printed */
     close_stdout("");
-    return f.answer ? f.answer : f.fits ? STATUS_SUCCESS : STATUS_OTHER_LENGTH;
+    return status_of(&f);
+}
+
+static void summarize(const int *statuses) {
+    size_t count[256] = {0}; /* of each exit status */
+    for (size_t i = 0; i < options.files.count; i++)
+        count[statuses[i]]++;
+    printf("%zu files: %zu with a length that fits, %zu with another, %zu with a bad header, %zu that cannot be read\n", options.files.count,
+           count[STATUS_SUCCESS], count[STATUS_OTHER_LENGTH], count[BUMBAZEEL_BAD_HEADER], count[STATUS_TROUBLE]);
+    close_stdout("");
+}
+
+int check_command(char **words) {
+    read_options(words);
+    int *statuses = calloc(options.files.count, sizeof *statuses);
+    if (!statuses)
+        die("no memory for %zu files", options.files.count);
+    int status = each_in_turn(options.files.names, options.files.count, check_file, statuses);
+    if (options.files.count > 1 && !options.json)
+        summarize(statuses);
+    free(statuses);
+    return status;
 }

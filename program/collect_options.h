@@ -2,6 +2,7 @@
 #ifndef COLLECT_OPTIONS_H
 #define COLLECT_OPTIONS_H
 
+#include "arguments.h"
 #include "drive.h"
 #include "run.h"
 
@@ -10,9 +11,11 @@
 struct collect_options {
     struct wish wish; /* area 0, room 0: not given */
     struct embedded drive;
-    bool room_given, json, quiet;
-    uint32_t timeout; /* milliseconds a command; 0: as long as the system lets it */
-    const char *device, *output;
+    bool room_given, json, quiet, no_clobber;
+    uint32_t timeout;         /* milliseconds a command; 0: as long as the system lets it */
+    struct operands devices;  /* none: the embedded drive */
+    const char *output;       /* NULL: a name of its own in the folder output_dir */
+    const char *output_dir;
     const char *embedded_only; /* an option that has no meaning with a device */
 };
 

@@ -13,16 +13,26 @@
 
 static const char help[] = "usage: bumbazeel COMMAND [OPTIONS]\n"
                            "\n"
-                           "  collect   collect a telemetry page, 07h or 08h, from a drive into a file\n"
-                           "  check     show the header of a saved page, and whether the file is whole\n"
+                           "  collect   collect a telemetry page, 07h or 08h, from drives into files\n"
+                           "  status    tell whether drives have something to tell on page 08h\n"
+                           "  list      list the NVMe drives at hand\n"
+                           "  check     show the header of a saved page, and whether the file's length fits\n"
                            "  words     print the words of a Get Log Page\n"
+                           "  help      show a command's options: bumbazeel help COMMAND\n"
                            "\n"
-                           "bumbazeel COMMAND --help tells a command's options.\n"
-                           "bumbazeel --version tells the version.\n"
+                           "bumbazeel COMMAND -h, --help tells a command's options.\n"
+                           "bumbazeel -V, --version tells the version.\n"
                            "\n"
                            "Exit status: 0 success; 7 to 12 the ending of a collection, 7 a bad header of a\n"
-                           "saved page; 1 a file that is not as long as its header says; 2 bad use, and\n"
-                           "what the machine refuses.\n";
+                           "saved page, 11 nothing to tell; 1 a file that is not as long as its header says;\n"
+                           "2 bad use, and what the machine refuses. Of several drives or files the first\n"
+                           "status that is not 0 counts.\n";
+
+static const struct {
+    const char *name;
+    int (*run)(char **words);
+} commands[] = {{"collect", collect_command}, {"status", status_command}, {"list", list_command},
+                {"check", check_command},     {"words", words_command}};
 
 /* A closed standard stream would lend its number to the next file that is opened, and what is printed would go there. The root directory is
  * always there, and takes no byte. */
@@ -44,28 +54,27 @@ static bool asks_for_json(char **words) {
     return false;
 }
 
-static int print(const char *text) {
-    fputs(text, stdout);
-    close_stdout("");
-    return STATUS_SUCCESS;
+static bool is(const char *word, const char *one, const char *other) { return strcmp(word, one) == 0 || strcmp(word, other) == 0; }
+
+static int run_command(const char *name, char **words) {
+    for (size_t i = 0; i < sizeof commands / sizeof *commands; i++)
+        if (strcmp(name, commands[i].name) == 0)
+            return commands[i].run(words);
+    die("unknown command '%s': give collect, status, list, check, words or help (bumbazeel --help)", name);
 }
 
 int main(int argc, char **argv) {
-    static const struct {
-        const char *name;
-        int (*run)(char **words);
-    } commands[] = {{"collect", collect_command}, {"check", check_command}, {"words", words_command}};
+    static char *ask_for_help[] = {"--help", NULL};
     fill_standard_streams();
     if (asks_for_json(argv))
         say_at_death(json_error);
     if (argc < 2)
-        die("no command: give collect, check or words (bumbazeel --help)");
-    for (size_t i = 0; i < sizeof commands / sizeof *commands; i++)
-        if (strcmp(argv[1], commands[i].name) == 0)
-            return commands[i].run(argv + 2);
-    if (argc == 2 && strcmp(argv[1], "--help") == 0)
-        return print(help);
-    if (argc == 2 && strcmp(argv[1], "--version") == 0)
-        return print("bumbazeel " VERSION "\n");
-    die("unknown command '%s': give collect, check or words (bumbazeel --help)", argv[1]);
+        die("no command: give collect, status, list, check, words or help (bumbazeel --help)");
+    if (argc == 2 && (is(argv[1], "--help", "-h") || strcmp(argv[1], "help") == 0))
+        print_help(help);
+    if (argc == 2 && is(argv[1], "--version", "-V"))
+        print_help("bumbazeel " VERSION "\n");
+    if (argc == 3 && strcmp(argv[1], "help") == 0)
+        return run_command(argv[2], ask_for_help);
+    return run_command(argv[1], argv + 2);
 }

@@ -1,6 +1,6 @@
 /* A temporary file in the directory of the one that is wanted, then a rename: no reader ever meets half a file, and an older file is only
  * replaced by a whole one. The temporary is removed at the program's end, whichever way that comes. */
-#define _GNU_SOURCE /* syncfs */
+#define _GNU_SOURCE /* syncfs, renameat2 */
 #include "output.h"
 
 #include "say.h"
@@ -23,12 +23,15 @@ enum { MOMENT = 20 };                                         /* milliseconds: a
 static struct {
     const char *name, *base; /* as it was given, and its last part */
     bool standard;           /* it is standard output */
+    bool fresh;              /* it replaces no file */
     int directory, file;
     mode_t mode;
     char temporary[80]; /* "" while there is none */
 } output;
 
 const char *output_called(void) { return output.standard ? "standard output" : output.name; }
+
+bool output_is_standard(void) { return output.standard; }
 
 static void remove_temporary(void) {
     if (output.temporary[0] && unlinkat(output.directory, output.temporary, 0))
@@ -66,6 +69,8 @@ static void look_at_older(void) {
             die("%s: %s", output.name, strerror(errno));
         return;
     }
+    if (output.fresh)
+        die("%s: is there already, and --no-clobber replaces nothing", output.name);
     if (!S_ISREG(older.st_mode))
         die("%s: is %s: give a file's name for OUTPUT, or - for standard output", output.name,
             S_ISDIR(older.st_mode)   ? "a directory"
@@ -90,8 +95,9 @@ static void open_temporary(void) {
     memcpy(output.temporary, name, sizeof name);
 }
 
-void output_open(const char *name) {
+void output_open(const char *name, bool fresh) {
     output.name = name;
+    output.fresh = fresh;
     output.standard = strcmp(name, "-") == 0;
     if (output.standard) {
         if (isatty(STDOUT_FILENO))
@@ -130,20 +136,25 @@ static void write_all(const uint8_t *bytes, size_t count) {
     }
 }
 
-/* A file behind standard output has its bytes on the disk; what a pipe's reader has not taken is not saved. */
-static void flush_standard(void) {
-    struct stat about;
+/* What a pipe's reader has not taken is not saved. */
+static void wait_for_reader(void) {
     int unread = 0;
-    if (fsync(output.file) && errno != EINVAL)
-        die("standard output: cannot write: %s: nothing was saved", strerror(errno));
-    if (fstat(output.file, &about) || !S_ISFIFO(about.st_mode))
-        return;
     while (ioctl(output.file, FIONREAD, &unread) == 0 && unread > 0) {
         struct pollfd reader = {.fd = output.file, .events = 0};
         stop_here();
         if (poll(&reader, 1, MOMENT) > 0 && reader.revents & POLLERR)
             die("standard output: its reader is gone and has left %d bytes: nothing was saved", unread);
     }
+}
+
+static void flush_standard(void) {
+    struct stat about;
+    bool known = fstat(output.file, &about) == 0;
+    bool on_disk = known && (S_ISREG(about.st_mode) || S_ISBLK(about.st_mode));
+    if (!known || (on_disk && fsync(output.file)))
+        die("standard output: cannot write: %s: nothing was saved", strerror(errno));
+    if (S_ISFIFO(about.st_mode))
+        wait_for_reader();
 }
 
 static void close_file(void) {
@@ -159,11 +170,22 @@ static void close_file(void) {
         die("%s: cannot write: %s: nothing was saved", output.name, strerror(reason));
 }
 
+/* 0, or -1 with errno. A file system that cannot rename so gets a second name for the file, and loses the first. */
+static int rename_fresh(const char *from) {
+    if (renameat2(output.directory, from, output.directory, output.base, RENAME_NOREPLACE) == 0)
+        return 0;
+    if (errno != EINVAL && errno != ENOSYS)
+        return -1;
+    if (linkat(output.directory, from, output.directory, output.base, 0))
+        return -1;
+    return unlinkat(output.directory, from, 0);
+}
+
 static void give_name(void) {
     char kept[sizeof output.temporary];
     memcpy(kept, output.temporary, sizeof kept);
     output.temporary[0] = '\0'; /* whole as it is, it is not removed any more */
-    if (renameat(output.directory, kept, output.directory, output.base))
+    if (output.fresh ? rename_fresh(kept) : renameat(output.directory, kept, output.directory, output.base))
         die("%s: cannot get its name: %s: the whole file is kept beside it as %s", output.name, strerror(errno), kept);
 }
 

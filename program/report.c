@@ -20,7 +20,8 @@ const char *report_standing(void) {
     };
     if (!report.file)
         return "nothing was saved";
-    snprintf(text, sizeof text, "%.4096s is saved and whole%s", report.file, report.page == 8 ? acknowledgement[report.acknowledgement] : "");
+    snprintf(text, sizeof text, "%.4096s %s%s", report.file, report.to_standard_output ? "has the whole page" : "is saved and whole",
+             report.page == 8 ? acknowledgement[report.acknowledgement] : "");
     return text;
 }
 
@@ -32,9 +33,9 @@ static void put_saved(char *text, size_t room) {
     if (!report.file)
         snprintf(text, room, "nothing saved");
     else if (drive->path)
-        snprintf(text, room, "%zu bytes saved in %.4096s from %.1024s, serial %s", report.bytes, report.file, drive->path, drive->serial);
+        snprintf(text, room, "%zu bytes saved to %.4096s from %.1024s, serial %s", report.bytes, report.file, drive->path, drive->serial);
     else
-        snprintf(text, room, "%zu bytes saved in %.4096s from the embedded drive", report.bytes, report.file);
+        snprintf(text, room, "%zu bytes saved to %.4096s from the embedded drive", report.bytes, report.file);
 }
 
 static void put_refusal(char *text, size_t room) {
@@ -84,12 +85,13 @@ static void print_time(void) {
 }
 
 static void print_drive(const struct drive *drive) {
+    print_member("device", report.device);
+    printf(", \"embedded\": %s, \"drive\": ", json_flag(!report.device));
     if (!drive) {
-        fputs(", \"device\": null, \"embedded\": null, \"drive\": null", stdout);
+        fputs("null", stdout);
         return;
     }
-    print_member("device", drive->path);
-    printf(", \"embedded\": %s, \"drive\": {\"oui\": \"%06X\"", json_flag(!drive->path), (unsigned)drive->oui);
+    printf("{\"oui\": \"%06X\"", (unsigned)drive->oui);
     print_member("serial", drive->serial);
     print_member("model", drive->model);
     print_member("firmware", drive->firmware);

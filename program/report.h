@@ -13,6 +13,7 @@ enum acknowledgement { NOT_SENT, DONE, REFUSED_BY_DRIVE, NOT_KNOWN };
 
 struct report {
     time_t began;
+    const char *device;        /* its path; NULL: the embedded drive */
     const struct drive *drive; /* NULL before it is open */
     uint8_t page, area;        /* area 0: not yet known */
     bool create;
@@ -26,6 +27,7 @@ struct report {
     uint32_t unread;   /* blocks of the page above the area, which keep it from being acknowledged */
     bool empty;        /* the page has no blocks at all */
     const char *file;  /* where it is saved, whole; NULL: nowhere */
+    bool to_standard_output;
     size_t bytes;      /* saved */
     char sha256[65];   /* of them; "": not asked for, or there is nobody to ask */
 };

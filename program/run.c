@@ -166,14 +166,15 @@ static void save(struct under_way *r) {
     size_t bytes = BLOCK * (1 + (size_t)wanted);
     output_save(r->image, bytes);
     report.file = output_called();
+    report.to_standard_output = output_is_standard();
     report.bytes = bytes;
     report.unread = greatest - wanted;
     report.empty = greatest == 0;
-    if (r->wish->hash)
-        sha256_of(r->image, bytes, report.sha256);
     int reason = output_sync_name();
     if (reason)
-        die("the folder of %s cannot be synced: %s: %s", report.file, strerror(reason), report_standing());
+        die("the directory of %s cannot be synced: %s: %s", report.file, strerror(reason), report_standing());
+    if (r->wish->hash)
+        sha256_of(r->image, bytes, report.sha256);
 }
 
 /* Sends the acknowledgement, if it is wanted, after the copy is saved. False: the run goes no further. */

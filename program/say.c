@@ -87,3 +87,9 @@ void close_stdout(const char *aside) {
     if (fflush(stdout) || lost)
         die("standard output: %s%s", errno ? strerror(errno) : "not all of it could be written", aside);
 }
+
+void print_help(const char *text) {
+    fputs(text, stdout);
+    close_stdout("");
+    exit(STATUS_SUCCESS);
+}

@@ -31,6 +31,9 @@ const char *meaning(uint8_t answer);
 /* The text with a '?' for each byte that would break a line or steer a terminal. */
 void make_plain(char *text);
 
+/* Prints what was asked for, help or version, and ends the program with success. */
+_Noreturn void print_help(const char *text);
+
 /* Ends the program's output: dies, with `aside` after the reason, if not all of standard output could be written. */
 void close_stdout(const char *aside);
 

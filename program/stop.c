@@ -26,10 +26,9 @@ static void ask(int number) { asked = number; }
 
 static void listen_to(int number) {
     struct sigaction now = {.sa_handler = ask}, before; /* no restart: a write that waits for its reader must come back */
-    if (sigaction(number, NULL, &before) == 0 && before.sa_handler == SIG_IGN)
-        return; /* who started the program wants it to live on, as nohup does */
     sigemptyset(&now.sa_mask);
-    sigaction(number, &now, NULL);
+    if (sigaction(number, &now, &before) == 0 && before.sa_handler == SIG_IGN)
+        sigaction(number, &before, NULL); /* who started the program wants it to live on, as nohup does */
 }
 
 /* Runs after everything else that the program does at its end. */

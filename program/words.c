@@ -7,7 +7,6 @@
 #include "say.h"
 
 #include <stdio.h>
-#include <stdlib.h>
 
 static const char help[] = "usage: bumbazeel words --page 07h|08h --offset BLOCKS --blocks N [OPTIONS]\n"
                            "\n"
@@ -52,13 +51,10 @@ static struct options read_options(char **words) {
     struct options o = {.rae = 1};
     struct arguments a = arguments_of("words", words);
     while (argument_next(&a)) {
-        if (argument_flag(&a, "--help")) {
-            fputs(help, stdout);
-            close_stdout("");
-            exit(STATUS_SUCCESS);
-        }
+        if (argument_flag(&a, "--help|-h"))
+            print_help(help);
         if (!read_option(&o, &a))
-            argument_operand(&a, NULL, NULL);
+            die("'%s' is one word too many: words takes options alone", argument_operand(&a));
     }
     if (!o.page || !o.offset_given || !o.blocks_given)
         die("words needs --page, --offset and --blocks (bumbazeel words --help)");

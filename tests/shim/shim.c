@@ -11,7 +11,7 @@
  *   BUMBAZEEL_SHIM_GONE=N       the drive is gone from the N-th Get Log Page of 07h or 08h on
  *   BUMBAZEEL_SHIM_FAIL=N,before|after,RESULT   the N-th admin command fails before or after the drive acted: with the error number -RESULT
  *                               if RESULT is negative, else with this NVMe status
- *   BUMBAZEEL_SHIM_LOG=FILE     each Get Log Page's five words and answer, and each other command's opcode and answer, a line each
+ *   BUMBAZEEL_SHIM_LOG=FILE     each Get Log Page's five words and answer, and a line for each other command
  *
  * 08h has a capture from the start; 07h is empty until a create, whose contents do not depend on who sends it. */
 #define _GNU_SOURCE
@@ -34,7 +34,7 @@
 
 enum { GET_LOG_PAGE = 0x02, IDENTIFY = 0x06, GET_FEATURES = 0x0A };
 enum { BLOCK = 512, REASON = 128, NVME_MAJOR = 243, INVALID_OPCODE = 0x0001, INVALID_FIELD = 0x0002 };
-static const uint32_t OUI = 0x02425A;
+static const uint32_t OUI = 0x02425A, RETAIN_EVENT = 1u << 15;
 
 static struct {
     bool ready;
@@ -53,6 +53,7 @@ static struct {
 /* The log is mapped before the program starts, so that no failing system call of the program's keeps a command out of it. */
 static struct {
     int file;
+    pid_t owner;
     char *text;
     size_t used;
 } record_of_commands = {.file = -1};
@@ -133,6 +134,10 @@ static void get_ready(void) {
     drive.ready = true;
 }
 
+/* A system call that nobody else makes, for whoever traces the program: it starts, the drive has an acknowledgement, it is at its end. */
+enum { START = 0x7FFF0001, ACKNOWLEDGEMENT = 0x7FFF0002, END = 0x7FFF0003 };
+static void mark(pid_t what) { (void)getsid(what); }
+
 __attribute__((constructor)) static void open_log(void) {
     const char *path = getenv("BUMBAZEEL_SHIM_LOG");
     if (!path || !getenv("BUMBAZEEL_SHIM"))
@@ -141,6 +146,8 @@ __attribute__((constructor)) static void open_log(void) {
     must(record_of_commands.file >= 0 && !ftruncate(record_of_commands.file, LONGEST_LOG), "the log cannot be opened");
     record_of_commands.text = mmap(NULL, LONGEST_LOG, PROT_READ | PROT_WRITE, MAP_SHARED, record_of_commands.file, 0);
     must(record_of_commands.text != MAP_FAILED, "the log cannot be mapped");
+    record_of_commands.owner = getpid();
+    mark(START);
 }
 
 /* Where the text ends, which other processes of the program may have written. */
@@ -150,9 +157,12 @@ static char *end_of_log(void) {
     return record_of_commands.text + record_of_commands.used;
 }
 
-/* A process that is killed leaves the zeros behind the text. */
+/* A process that is killed leaves the zeros behind the text, and so does a child, whose parent still writes. */
 __attribute__((destructor)) static void close_log(void) {
-    if (record_of_commands.text && ftruncate(record_of_commands.file, end_of_log() - record_of_commands.text))
+    if (!record_of_commands.text || getpid() != record_of_commands.owner)
+        return;
+    mark(END);
+    if (ftruncate(record_of_commands.file, end_of_log() - record_of_commands.text))
         fprintf(stderr, "shim: the log has zeros at its end\n");
 }
 
@@ -189,6 +199,8 @@ static int get_log_page(const uint32_t words[5], uint8_t *data, size_t bytes) {
         errno = ENODEV;
         return -1;
     }
+    if (page == 8 && !(words[0] & RETAIN_EVENT))
+        mark(ACKNOWLEDGEMENT);
     if (drive.asked == drive.capture_before)
         page == 8 ? take_08() : take_07();
     uint8_t answer = command(words, data, bytes);
@@ -210,7 +222,6 @@ static int identify(uint32_t what, uint8_t *data, size_t bytes) {
     data[75] = OUI >> 16;
     data[77] = (uint8_t)setting("BUMBAZEEL_SHIM_MDTS", 5);
     data[261] = (uint8_t)setting("BUMBAZEEL_SHIM_LPA", 1 << 2 | 1 << 3 | 1 << 5 | 1 << 6);
-    log_line("Identify 0000\n");
     return 0;
 }
 
@@ -228,7 +239,9 @@ static int serve(struct nvme_admin_cmd *c) {
     const uint32_t words[5] = {c->cdw10, c->cdw11, c->cdw12, c->cdw13, c->cdw14};
     switch (c->opcode) {
     case GET_LOG_PAGE: return get_log_page(words, data, c->data_len);
-    case IDENTIFY: return identify(c->cdw10 & 0xFF, data, c->data_len);
+    case IDENTIFY:
+        log_line("Identify timeout %u\n", c->timeout_ms);
+        return identify(c->cdw10 & 0xFF, data, c->data_len);
     case GET_FEATURES: return get_features(c->cdw10 & 0xFF, data, c->data_len);
     default: return INVALID_OPCODE;
     }

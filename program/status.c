@@ -1,0 +1,129 @@
+/* bumbazeel status: whether drives have something to tell, from the header of a page alone, which stays unacknowledged. */
+#include "commands.h"
+
+#include "arguments.h"
+#include "bumbazeel.h"
+#include "drive.h"
+#include "each.h"
+#include "json.h"
+#include "names.h"
+#include "numbers.h"
+#include "say.h"
+
+#include <stdio.h>
+#include <stdlib.h>
+
+static const char help[] = "usage: bumbazeel status [OPTIONS] DEVICE...\n"
+                           "\n"
+                           "Reads the header of page 08h, without acknowledging it, and tells whether the\n"
+                           "drive has something to tell. Exit status: 0 yes, 11 no.\n"
+                           "\n"
+                           "  --page 07h|08h    the page (08h); of 07h: whether it holds a capture\n"
+                           "  -t, --timeout MS  the most milliseconds that a command may take\n"
+                           "  --json            print one JSON object a drive\n"
+                           "  -h, --help        this text\n";
+
+static struct {
+    struct operands devices;
+    uint8_t page;
+    uint32_t timeout;
+    bool json;
+} options = {.page = 8};
+
+static void read_options(char **words) {
+    struct arguments a = arguments_of("status", words);
+    const char *value;
+    while (argument_next(&a)) {
+        if (argument_flag(&a, "--help|-h"))
+            print_help(help);
+        if (argument_value(&a, "--page", &value))
+            options.page = page_of("--page", value);
+        else if (argument_value(&a, "--timeout|-t", &value))
+            options.timeout = (uint32_t)number_of("--timeout", value, 1, UINT32_MAX);
+        else if (argument_flag(&a, "--json"))
+            options.json = true;
+        else
+            operands_add(&options.devices, argument_operand(&a));
+    }
+    if (!options.devices.count)
+        die("status needs DEVICE, such as /dev/nvme0 (bumbazeel list shows those at hand)");
+}
+
+/* The header's fields, or the answer that says why there are none. */
+static uint8_t ask(struct drive *drive, struct bumbazeel_fields *fields) {
+    uint32_t words[5];
+    uint8_t header[BLOCK];
+    if (!(drive->caps & BUMBAZEEL_TELEMETRY))
+        die("%s: LPA bit 3 is 0, so it has no telemetry pages", drive->path);
+    bumbazeel_words(options.page, 0, 0, 1, 0, 1, words);
+    enum completion completion = drive->send(drive, words, header, sizeof header);
+    if (completion == LOST)
+        die("%s: %s", drive->path, drive->trouble);
+    if (completion == REFUSED)
+        return BUMBAZEEL_BROKE_ITS_WORD;
+    return bumbazeel_check(options.page, drive->caps & BUMBAZEEL_DA4S, header, sizeof header, fields);
+}
+
+static uint32_t greatest(const struct bumbazeel_fields *fields) {
+    return fields->last[3] > fields->last[2] ? fields->last[3] : fields->last[2];
+}
+
+/* Whether the page has something: 08h says so itself, and 07h has blocks if a capture was ever taken. */
+static bool something(const struct bumbazeel_fields *fields) { return options.page == 8 ? fields->available : greatest(fields) > 0; }
+
+/* `meaning` has 08h's words for nothing. */
+static const char *in_words(uint8_t answer) { return answer == BUMBAZEEL_NOTHING ? "nothing" : meaning(answer); }
+
+static void print_line(const struct drive *drive, uint8_t answer, const struct bumbazeel_fields *fields) {
+    printf("%s  %s  %s  %02Xh: ", drive->path, drive->serial, drive->model, options.page);
+    if (answer == BUMBAZEEL_SUCCESS)
+        printf("yes, generation %u, %u blocks, %llu bytes\n",
+               options.page == 7 ? fields->host_generation : fields->controller_generation, (unsigned)greatest(fields),
+               (unsigned long long)BLOCK * (1 + (uint64_t)greatest(fields)));
+    else
+        printf("%u (%s)%s%s\n", answer, in_words(answer), drive->refusal ? ": " : "", drive->refusal ? status_name(drive->refusal) : "");
+}
+
+static void print_json(const struct drive *drive, uint8_t answer, const struct bumbazeel_fields *fields) {
+    bool known = answer == BUMBAZEEL_SUCCESS || answer == BUMBAZEEL_NOTHING;
+    printf("{\"status\": %u, \"error\": null, \"device\": ", answer);
+    json_string(drive->path);
+    printf(", \"serial\": ");
+    json_string(drive->serial);
+    printf(", \"model\": ");
+    json_string(drive->model);
+    printf(", \"firmware\": ");
+    json_string(drive->firmware);
+    printf(", \"page\": \"%02Xh\", \"meaning\": ", options.page);
+    json_string(in_words(answer));
+    if (known)
+        printf(", \"generation\": %u, \"last_blocks\": [%u, %u, %u, %u]",
+               options.page == 7 ? fields->host_generation : fields->controller_generation, (unsigned)fields->last[0],
+               (unsigned)fields->last[1], (unsigned)fields->last[2], (unsigned)fields->last[3]);
+    printf(", \"refusal_status\": \"%04Xh\"}\n", drive->refusal);
+}
+
+static int tell_status(const char *path) {
+    struct bumbazeel_fields fields = {.page = options.page};
+    struct drive *drive = device_open(path, options.timeout);
+    uint8_t answer = ask(drive, &fields);
+    if (answer == BUMBAZEEL_SUCCESS && !something(&fields))
+        answer = BUMBAZEEL_NOTHING;
+    say_at_death(NULL); /* its object is the one that is printed here */
+    if (options.json)
+        print_json(drive, answer, &fields);
+    else
+        print_line(drive, answer, &fields);
+    close_stdout("");
+    return answer;
+}
+
+int status_command(char **words) {
+    read_options(words);
+    int *statuses = calloc(options.devices.count, sizeof *statuses);
+    if (!statuses)
+        die("no memory for %zu devices", options.devices.count);
+    int status = each_in_turn(options.devices.names, options.devices.count, tell_status, statuses);
+    free(statuses);
+    return status;
+}
