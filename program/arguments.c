@@ -23,7 +23,8 @@ bool argument_next(struct arguments *a) {
     return a->word != NULL;
 }
 
-/* Whether the argument is this one name, "--name" or "-n". What follows it in the same word is then *rest: a long name's value follows '='. */
+/* Whether the argument is this one name, "--name" or "-n". What follows it in the same word is then *rest: a long name's value follows
+ * '='. */
 static bool is_name(const char *word, const char *name, size_t length, const char **rest) {
     if (strncmp(word, name, length) != 0)
         return false;

@@ -1,5 +1,5 @@
-/* A command's arguments, read from left to right. Options are `--name`, `--name value` and `--name=value`, or `-n`, `-n value` and `-nvalue`;
- * `--` ends them. An option that has several names has them as "--name|-n". Whatever is wrong ends the program with one line. */
+/* A command's arguments, read from left to right. Options are `--name`, `--name value` and `--name=value`, or `-n`, `-n value` and
+ * `-nvalue`; `--` ends them. An option that has several names has them as "--name|-n". Whatever is wrong ends the program with one line. */
 #ifndef ARGUMENTS_H
 #define ARGUMENTS_H
 

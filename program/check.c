@@ -206,8 +206,8 @@ static void print_table(const struct finding *f, const struct saved *saved) {
 
 static void print_fields(const struct finding *f) {
     const struct bumbazeel_fields *h = &f->fields;
-    printf(", \"page\": \"%02Xh\", \"oui\": \"%06X\", \"scope\": %u, \"scope_name\": \"%s\", \"da4s\": %s", h->page, (unsigned)h->oui, h->scope,
-           scope_name(h->scope), json_flag(f->da4s));
+    printf(", \"page\": \"%02Xh\", \"oui\": \"%06X\", \"scope\": %u, \"scope_name\": \"%s\", \"da4s\": %s", h->page, (unsigned)h->oui,
+           h->scope, scope_name(h->scope), json_flag(f->da4s));
     printf(", \"last_blocks\": [%u, %u, %u, %u]", (unsigned)h->last[0], (unsigned)h->last[1], (unsigned)h->last[2], (unsigned)h->last[3]);
     if (h->page == 7)
         printf(", \"host_generation\": %u", h->host_generation);
@@ -226,7 +226,8 @@ static void print_json(const char *name, const struct finding *f, const struct s
     json_string(meaning(f->answer));
     if (f->answer == BUMBAZEEL_SUCCESS)
         print_fields(f);
-    printf(", \"file_bytes\": %llu, \"areas_held\": %u, \"length_fits\": %s}\n", (unsigned long long)saved->bytes, f->held, json_flag(f->fits));
+    printf(", \"file_bytes\": %llu, \"areas_held\": %u, \"length_fits\": %s}\n", (unsigned long long)saved->bytes, f->held,
+           json_flag(f->fits));
 }
 
 static int check_file(const char *name) {
@@ -249,8 +250,8 @@ static void summarize(const int *statuses) {
     size_t count[256] = {0}; /* of each exit status */
     for (size_t i = 0; i < options.files.count; i++)
         count[statuses[i]]++;
-    printf("%zu files: %zu with a length that fits, %zu with another, %zu with a bad header, %zu that cannot be read\n", options.files.count,
-           count[STATUS_SUCCESS], count[STATUS_OTHER_LENGTH], count[BUMBAZEEL_BAD_HEADER], count[STATUS_TROUBLE]);
+    printf("%zu files: %zu with a length that fits, %zu with another, %zu with a bad header, %zu that cannot be read\n",
+           options.files.count, count[STATUS_SUCCESS], count[STATUS_OTHER_LENGTH], count[BUMBAZEEL_BAD_HEADER], count[STATUS_TROUBLE]);
     close_stdout("");
 }
 

@@ -42,7 +42,7 @@ static void hint(void) {
 /* Tells a run that has an ending. */
 static void tell(void) {
     char aside[5000];
-    bool as_wished = report.page == 7 || report.acknowledgement == DONE || options.wish.acknowledge == NEVER;
+    bool as_wished = report.page == 7 || report.acknowledgement == DONE || report.keeps;
     say_at_death(NULL); /* the object that is printed here is the one */
     if (options.json)
         report_json(report.ending, NULL);
@@ -60,6 +60,7 @@ static int collect_from(const char *device) {
     report.began = time(NULL);
     report.page = wish.page;
     report.device = device;
+    report.keeps = wish.acknowledge == NEVER;
     if (options.json)
         say_at_death(report_json);
     struct drive *drive = device ? device_open(device, options.timeout) : embedded_open(wish.page, &options.drive);

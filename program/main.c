@@ -34,8 +34,8 @@ static const struct {
 } commands[] = {{"collect", collect_command}, {"status", status_command}, {"list", list_command},
                 {"check", check_command},     {"words", words_command}};
 
-/* A closed standard stream would lend its number to the next file that is opened, and what is printed would go there. The root directory is
- * always there, and takes no byte. */
+/* A closed standard stream would lend its number to the next file that is opened, and what is printed would go there. The root directory
+ * is always there, and takes no byte. */
 static void fill_standard_streams(void) {
     int file;
     do

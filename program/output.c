@@ -71,6 +71,8 @@ static void look_at_older(void) {
     }
     if (output.fresh)
         die("%s: is there already, and --no-clobber replaces nothing", output.name);
+    if (S_ISCHR(older.st_mode) || S_ISBLK(older.st_mode))
+        die("%s: is a device: give a file's name for OUTPUT after it, or - for standard output", output.name);
     if (!S_ISREG(older.st_mode))
         die("%s: is %s: give a file's name for OUTPUT, or - for standard output", output.name,
             S_ISDIR(older.st_mode)   ? "a directory"

@@ -6,12 +6,12 @@
 #include <stddef.h>
 #include <stdint.h>
 
-/* Prepares for a file of this name, which is not to replace another if it is `fresh`, or for standard output if it is "-". Dies if that cannot
- * do, before a page is asked for. From here on, whatever ends the program leaves no temporary file. */
+/* Prepares for a file of this name, which is not to replace another if it is `fresh`, or for standard output if it is "-". Dies if that
+ * cannot do, before a page is asked for. From here on, whatever ends the program leaves no temporary file. */
 void output_open(const char *name, bool fresh);
 
-/* Writes the bytes, down to the disk, and gives the file its name, over an older one. To standard output: writes them, and waits until a pipe's
- * reader has taken them. Dies if that cannot be done. */
+/* Writes the bytes, down to the disk, and gives the file its name, over an older one. To standard output: writes them, and waits until a
+ * pipe's reader has taken them. Dies if that cannot be done. */
 void output_save(const uint8_t *bytes, size_t count);
 
 /* What the saved file is called in messages, and whether it is standard output. */

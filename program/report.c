@@ -27,15 +27,13 @@ const char *report_standing(void) {
 
 static const char *plural(uint64_t count) { return count == 1 ? "" : "s"; }
 
-/* Where the copy is from, and where it is. */
+/* Where the copy is, and from whom. */
 static void put_saved(char *text, size_t room) {
     const struct drive *drive = report.drive;
-    if (!report.file)
-        snprintf(text, room, "nothing saved");
-    else if (drive->path)
-        snprintf(text, room, "%zu bytes saved to %.4096s from %.1024s, serial %s", report.bytes, report.file, drive->path, drive->serial);
-    else
-        snprintf(text, room, "%zu bytes saved to %.4096s from the embedded drive", report.bytes, report.file);
+    char saved[4160] = "nothing saved";
+    if (report.file)
+        snprintf(saved, sizeof saved, "%zu bytes saved to %.4096s", report.bytes, report.file);
+    snprintf(text, room, "%s from %.1024s%s%s", saved, drive_name(drive), drive->path ? ", serial " : "", drive->path ? drive->serial : "");
 }
 
 static void put_refusal(char *text, size_t room) {
@@ -53,7 +51,7 @@ static void put_acknowledgement(char *text, size_t room) {
         snprintf(text, room, ": the file is whole, and the drive may still hold its data");
     else if (report.newer)
         snprintf(text, room, "; a newer capture was acknowledged unread");
-    else if (report.file && report.page == 8 && report.acknowledgement == NOT_SENT && report.unread)
+    else if (report.file && report.page == 8 && report.acknowledgement == NOT_SENT && report.unread && !report.keeps)
         snprintf(text, room, "; page 08h is not acknowledged: it holds %u block%s above area %u (--acknowledge lets the drive forget them)",
                  (unsigned)report.unread, plural(report.unread), report.area);
     else if (report.file && report.page == 8 && report.acknowledgement == NOT_SENT)
@@ -96,8 +94,8 @@ static void print_drive(const struct drive *drive) {
     print_member("model", drive->model);
     print_member("firmware", drive->firmware);
     printf(", \"extended_data\": %s, \"telemetry\": %s, \"da4s\": %s, \"etdas\": %s, \"mcdas\": %s}",
-           json_flag(drive->caps & BUMBAZEEL_EXTENDED), json_flag(drive->caps & BUMBAZEEL_TELEMETRY), json_flag(drive->caps & BUMBAZEEL_DA4S),
-           json_flag(drive->caps & BUMBAZEEL_ETDAS), json_flag(drive->caps & BUMBAZEEL_MCDAS));
+           json_flag(drive->caps & BUMBAZEEL_EXTENDED), json_flag(drive->caps & BUMBAZEEL_TELEMETRY),
+           json_flag(drive->caps & BUMBAZEEL_DA4S), json_flag(drive->caps & BUMBAZEEL_ETDAS), json_flag(drive->caps & BUMBAZEEL_MCDAS));
 }
 
 static void print_run(void) {

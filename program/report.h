@@ -24,6 +24,7 @@ struct report {
     bool newer;        /* a newer capture was acknowledged unread */
     bool sizes_differ; /* an attempt failed because its closing header showed other last blocks under the same generation */
     enum acknowledgement acknowledgement;
+    bool keeps;        /* none is wanted */
     uint32_t unread;   /* blocks of the page above the area, which keep it from being acknowledged */
     bool empty;        /* the page has no blocks at all */
     const char *file;  /* where it is saved, whole; NULL: nowhere */

@@ -1,8 +1,9 @@
 /* The run: the library decides every command and the ending; here words are sent, bytes are moved and the copy is saved.
  *
- * How much room the copy needs is known when a header is there. Setup is a plain function of numbers, so it is asked twice: without room, for the
- * words of the first command, and again with the room that the header calls for when the command is completed; its first command is the very
- * one that was sent, so the completion is its own. A header that shows more than there is room for opens a collection in the same way. */
+ * How much room the copy needs is known when a header is there. Setup is a plain function of numbers, so it is asked twice: without room,
+ * for the words of the first command, and again with the room that the header calls for when the command is completed; its first command
+ * is the very one that was sent, so the completion is its own. A header that shows more than there is room for opens a collection in the
+ * same way. */
 #include "run.h"
 
 #include "bumbazeel.h"
@@ -143,8 +144,8 @@ static bool copy_stands(const struct under_way *r) {
     return ended_on_07 || (r->next.kind == BUMBAZEEL_SEND && r->state.phase == AWAITS_ACKNOWLEDGEMENT);
 }
 
-/* Whether the closing header shows other last blocks than the header that opened the attempt, though its generation matched: 256 captures came
- * in between, or the drive emptied its page. Then the copy is of no use, and the attempt has failed. */
+/* Whether the closing header shows other last blocks than the header that opened the attempt, though its generation matched: 256 captures
+ * came in between, or the drive emptied its page. Then the copy is of no use, and the attempt has failed. */
 static bool sizes_differ(const struct under_way *r) {
     struct bumbazeel_fields closing = fields_of(r, r->image);
     return memcmp(closing.last, r->state.last, sizeof closing.last) != 0;

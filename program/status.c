@@ -75,7 +75,10 @@ static bool something(const struct bumbazeel_fields *fields) { return options.pa
 static const char *in_words(uint8_t answer) { return answer == BUMBAZEEL_NOTHING ? "nothing" : meaning(answer); }
 
 static void print_line(const struct drive *drive, uint8_t answer, const struct bumbazeel_fields *fields) {
-    printf("%s  %s  %s  %02Xh: ", drive->path, drive->serial, drive->model, options.page);
+    char path[4096];
+    snprintf(path, sizeof path, "%s", drive->path);
+    make_plain(path);
+    printf("%s  %s  %s  %02Xh: ", path, drive->serial, drive->model, options.page);
     if (answer == BUMBAZEEL_SUCCESS)
         printf("yes, generation %u, %u blocks, %llu bytes\n",
                options.page == 7 ? fields->host_generation : fields->controller_generation, (unsigned)greatest(fields),

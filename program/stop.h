@@ -2,8 +2,8 @@
 #ifndef STOP_H
 #define STOP_H
 
-/* From here on a signal asks for a stop, and a closed pipe or a file that may not grow is an error and no signal. When the program has been
- * asked, its end, whichever it is, comes by that signal, so that a shell's loop stops too. */
+/* From here on a signal asks for a stop, and a closed pipe or a file that may not grow is an error and no signal. When the program has
+ * been asked, its end, whichever it is, comes by that signal, so that a shell's loop stops too. */
 void stop_listen(void);
 
 /* Ends the program if a stop was asked for. */

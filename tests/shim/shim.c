@@ -159,10 +159,10 @@ static char *end_of_log(void) {
 
 /* A process that is killed leaves the zeros behind the text, and so does a child, whose parent still writes. */
 __attribute__((destructor)) static void close_log(void) {
-    if (!record_of_commands.text || getpid() != record_of_commands.owner)
+    if (!record_of_commands.text)
         return;
     mark(END);
-    if (ftruncate(record_of_commands.file, end_of_log() - record_of_commands.text))
+    if (getpid() == record_of_commands.owner && ftruncate(record_of_commands.file, end_of_log() - record_of_commands.text))
         fprintf(stderr, "shim: the log has zeros at its end\n");
 }
 
