@@ -172,22 +172,23 @@ static void close_file(void) {
         die("%s: cannot write: %s: nothing was saved", output.name, strerror(reason));
 }
 
-/* 0, or -1 with errno. A file system that cannot rename so gets a second name for the file, and loses the first. */
-static int rename_fresh(const char *from) {
+/* Whether the temporary has got the name, which no other file had. Where a file system cannot rename so, the file gets a second name, and
+ * the first is left to be removed. */
+static bool renamed_fresh(const char *from) {
     if (renameat2(output.directory, from, output.directory, output.base, RENAME_NOREPLACE) == 0)
-        return 0;
-    if (errno != EINVAL && errno != ENOSYS)
-        return -1;
-    if (linkat(output.directory, from, output.directory, output.base, 0))
-        return -1;
-    return unlinkat(output.directory, from, 0);
+        return true;
+    if ((errno != EINVAL && errno != ENOSYS) || linkat(output.directory, from, output.directory, output.base, 0))
+        return false;
+    snprintf(output.temporary, sizeof output.temporary, "%s", from);
+    remove_temporary();
+    return true;
 }
 
 static void give_name(void) {
     char kept[sizeof output.temporary];
     memcpy(kept, output.temporary, sizeof kept);
     output.temporary[0] = '\0'; /* whole as it is, it is not removed any more */
-    if (output.fresh ? rename_fresh(kept) : renameat(output.directory, kept, output.directory, output.base))
+    if (output.fresh ? !renamed_fresh(kept) : renameat(output.directory, kept, output.directory, output.base) != 0)
         die("%s: cannot get its name: %s: the whole file is kept beside it as %s", output.name, strerror(errno), kept);
 }
 

@@ -12,9 +12,9 @@
 static const struct {
     int number;
     const char *name;
-} listened[] = {{SIGINT, "SIGINT"},   {SIGTERM, "SIGTERM"}, {SIGHUP, "SIGHUP"},       {SIGQUIT, "SIGQUIT"},
-                {SIGUSR1, "SIGUSR1"}, {SIGUSR2, "SIGUSR2"}, {SIGALRM, "SIGALRM"},     {SIGVTALRM, "SIGVTALRM"},
-                {SIGPROF, "SIGPROF"}, {SIGXCPU, "SIGXCPU"}, {SIGIO, "SIGIO"},         {SIGPWR, "SIGPWR"},
+} listened[] = {{SIGINT, "SIGINT"},   {SIGTERM, "SIGTERM"}, {SIGHUP, "SIGHUP"},   {SIGQUIT, "SIGQUIT"},
+                {SIGUSR1, "SIGUSR1"}, {SIGUSR2, "SIGUSR2"}, {SIGALRM, "SIGALRM"}, {SIGVTALRM, "SIGVTALRM"},
+                {SIGPROF, "SIGPROF"}, {SIGXCPU, "SIGXCPU"}, {SIGIO, "SIGIO"},     {SIGPWR, "SIGPWR"},
 #ifdef SIGSTKFLT
                 {SIGSTKFLT, "SIGSTKFLT"}
 #endif
@@ -35,7 +35,6 @@ static void listen_to(int number) {
 static void end_by_signal(void) {
     if (!asked)
         return;
-    fflush(stdout);
     signal(asked, SIG_DFL);
     raise(asked);
 }
