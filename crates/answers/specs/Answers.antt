@@ -3,7 +3,7 @@
 use Prim.Native.Nat.{ℕ}
 use mathlib.Core.Bool.{true, false}
 use lib.Dec.{eqb}
-use Rattle.basics.specs.Choice.{pick}
+use Rattle.choices.specs.Choice.{pick}
 use Rattle.answers.specs.declared.Status.{Status}
 
 -- ---- the answers

@@ -1,6 +1,6 @@
 // The answers of both sides, 0 to 15, under document 01's names, and the NVMe status that an answer to a command stands for.
 //
-// It rests on basics, for the words of its definitions. It promises that each answer's status is the one of specs/Answers.antt, and
+// It rests on choices, for the words of its definitions. It promises that each answer's status is the one of specs/Answers.antt, and
 // that a refusal of the call itself has none.
 ghost use mathlib.Core.Path.{_≡_};
 ghost use Rattle.answers.specs.Answers.{nvmeStatus, noStatus, statusOf};

@@ -6,8 +6,8 @@ use mathlib.Core.List.{List, [], _∷_}
 use mathlib.Core.Bool.{Bool, not, _&&_}
 use lib.ListN.{length, getD}
 use lib.Dec.{leb, eqb}
-use Rattle.basics.specs.Choice.{pick}
-use Rattle.parts.specs.Parts.{zeros}
+use Rattle.choices.specs.Choice.{pick}
+use Rattle.copies.specs.Parts.{zeros}
 use Rattle.answers.specs.Answers.{success, disagree, badSetup}
 use Rattle.answers.specs.declared.Status.{Status}
 use Rattle.words.specs.declared.Words.{Words}
@@ -89,7 +89,7 @@ stepAt s ok d copy =
 -- ---- a controller
 
 abbrev pub identityOf : ℕ → ℕ → ℕ → Identity
-identityOf oui hostscope ctrlscope = record { oui = oui; hostscope = hostscope; ctrlscope = ctrlscope }
+identityOf oui hostscope controllerscope = record { oui = oui; hostscope = hostscope; controllerscope = controllerscope }
 
 -- capabilities and an identity that a controller has
 unfoldable pub freshOk : ℕ → Identity → Bool
@@ -101,39 +101,39 @@ freshBytes caps identity = pick (freshOk caps identity) (recordBytes (freshOf (c
 
 -- a refusal leaves the record's bytes as they were
 abbrev pub recordAfter : List ℕ → Outcome → List ℕ
-recordAfter r o = pick (eqb (o .answer) success) (recordBytes (o .world .drive)) r
+recordAfter r o = pick (eqb (o .answer) success) (recordBytes (o .world .own)) r
 
 -- what a command leaves: answer, class, the record's bytes, host store and buffer
 pub record Did : Type 0 where
   pub answer : ℕ
   pub class : ℕ
-  pub drive : List ℕ
+  pub own : List ℕ
   pub host : List ℕ
   pub buf : List ℕ
 
 abbrev pub did : ℕ → ℕ → List ℕ → List ℕ → List ℕ → Did
-did answer class drive host buf = record { answer = answer; class = class; drive = drive; host = host; buf = buf }
+did answer class own host buf = record { answer = answer; class = class; own = own; host = host; buf = buf }
 
 abbrev pub didOf : List ℕ → Outcome → Did
 didOf r o = did (o .answer) (o .class) (recordAfter r o) (o .world .host) (o .buf)
 
 -- a command on a record's bytes, host store h and controller store k
 unfoldable pub commandAt : List ℕ → List ℕ → List ℕ → Candidate → Words → List ℕ → Did
-commandAt r h k cand words buf =
-    pick (recordSound r) (didOf r (commandOf (world (recordAt r) h k) cand words buf)) (did disagree 0 r h buf)
+commandAt r h k candidate words buf =
+    pick (recordSound r) (didOf r (commandOf (world (recordAt r) h k) candidate words buf)) (did disagree 0 r h buf)
 
 -- what a capture leaves: answer, the record's bytes and controller store
 pub record Took : Type 0 where
   pub answer : ℕ
-  pub drive : List ℕ
-  pub ctrl : List ℕ
+  pub own : List ℕ
+  pub controller : List ℕ
 
 abbrev pub took : ℕ → List ℕ → List ℕ → Took
-took answer drive ctrl = record { answer = answer; drive = drive; ctrl = ctrl }
+took answer own controller = record { answer = answer; own = own; controller = controller }
 
 abbrev pub tookOf : List ℕ → Outcome → Took
-tookOf r o = took (o .answer) (recordAfter r o) (o .world .ctrl)
+tookOf r o = took (o .answer) (recordAfter r o) (o .world .controller)
 
 -- a capture on a record's bytes, host store h and controller store k
 unfoldable pub captureAt : List ℕ → List ℕ → List ℕ → Candidate → Took
-captureAt r h k cand = pick (recordSound r) (tookOf r (captureOf (world (recordAt r) h k) cand)) (took disagree r k)
+captureAt r h k candidate = pick (recordSound r) (tookOf r (captureOf (world (recordAt r) h k) candidate)) (took disagree r k)

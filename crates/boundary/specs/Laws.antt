@@ -9,8 +9,8 @@ use native.Mathlib.Omega.{arith}
 use lib.ListN.{length}
 use lib.Dec.{eqb}
 use borrow.Author.Tests.{lt-leb, eq-eqb}
-use Rattle.basics.specs.Choice.{pick-cases}
-use Rattle.basics.specs.Tests.{holds, each, by-test, clash, and-left}
+use Rattle.choices.specs.Choice.{pick-cases}
+use Rattle.choices.specs.Tests.{holds, each, by-test, clash, and-left}
 use Rattle.answers.specs.Answers.{success, badSetup}
 use Rattle.words.specs.declared.Words.{Words}
 use Rattle.course.specs.declared.Seen.{Seen}
@@ -30,10 +30,10 @@ use Rattle.boundary.specs.Steps.{kept-record}
 
 -- ---- a command and a capture
 
-module _ (r h k : List ℕ) (cand : Candidate) where
+module _ (r h k : List ℕ) (candidate : Candidate) where
   -- a command that is no success leaves the record's bytes, the host store and the buffer as lent
-  pub command-refusal : (words : Words) (buf : List ℕ) → (commandAt r h k cand words buf .answer ≡ success → ⊥)
-      → (commandAt r h k cand words buf .drive ≡ r) × (commandAt r h k cand words buf .host ≡ h) × (commandAt r h k cand words buf .buf ≡ buf)
+  pub command-refusal : (words : Words) (buf : List ℕ) → (commandAt r h k candidate words buf .answer ≡ success → ⊥)
+      → (commandAt r h k candidate words buf .own ≡ r) × (commandAt r h k candidate words buf .host ≡ h) × (commandAt r h k candidate words buf .buf ≡ buf)
   unfolding commandAt
   command-refusal words buf =
       by-test (recordSound r)
@@ -41,12 +41,12 @@ module _ (r h k : List ℕ) (cand : Candidate) where
       rw p
       (λ n.
       let w = world (recordAt r) h k in
-      let f = refusal-changes-nothing w cand words buf n in
-      (sym (kept-record r (commandOf w cand words buf) n), ap (λ (x : World). x .host) (f .0), f .1)))
+      let f = refusal-changes-nothing w candidate words buf n in
+      (sym (kept-record r (commandOf w candidate words buf) n), ap (λ (x : World). x .host) (f .0), f .1)))
       (λ p. rw p (λ n. (refl, refl, refl)))
 
   -- a capture that is no success leaves the record's bytes and the controller store as lent
-  pub capture-refusal : (captureAt r h k cand .answer ≡ success → ⊥) → (captureAt r h k cand .drive ≡ r) × (captureAt r h k cand .ctrl ≡ k)
+  pub capture-refusal : (captureAt r h k candidate .answer ≡ success → ⊥) → (captureAt r h k candidate .own ≡ r) × (captureAt r h k candidate .controller ≡ k)
   unfolding captureAt
   capture-refusal =
       by-test (recordSound r)
@@ -54,22 +54,22 @@ module _ (r h k : List ℕ) (cand : Candidate) where
       rw p
       (λ n.
       let w = world (recordAt r) h k in
-      (sym (kept-record r (captureOf w cand) n), ap (λ (x : World). x .ctrl) (capture-refusal-changes-nothing w cand n))))
+      (sym (kept-record r (captureOf w candidate) n), ap (λ (x : World). x .controller) (capture-refusal-changes-nothing w candidate n))))
       (λ p. rw p (λ n. (refl, refl)))
 
 sound-after : (r : List ℕ) (o : Outcome) → recordSound r ≡ true → recordSound (recordAfter r o) ≡ true
 sound-after r o s =
-    pick-cases (λ (b : List ℕ). recordSound b ≡ true) (eqb (o .answer) success) (λ e. record-sound (o .world .drive)) (λ e. s)
+    pick-cases (λ (b : List ℕ). recordSound b ≡ true) (eqb (o .answer) success) (λ e. record-sound (o .world .own)) (λ e. s)
 
 -- a sound record stays sound
-pub command-sound : (r h k : List ℕ) (cand : Candidate) (words : Words) (buf : List ℕ) → recordSound r ≡ true
-    → recordSound (commandAt r h k cand words buf .drive) ≡ true
+pub command-sound : (r h k : List ℕ) (candidate : Candidate) (words : Words) (buf : List ℕ) → recordSound r ≡ true
+    → recordSound (commandAt r h k candidate words buf .own) ≡ true
 unfolding commandAt
-command-sound r h k cand words buf s = rw s (sound-after r (commandOf (world (recordAt r) h k) cand words buf) s)
+command-sound r h k candidate words buf s = rw s (sound-after r (commandOf (world (recordAt r) h k) candidate words buf) s)
 
-pub capture-sound : (r h k : List ℕ) (cand : Candidate) → recordSound r ≡ true → recordSound (captureAt r h k cand .drive) ≡ true
+pub capture-sound : (r h k : List ℕ) (candidate : Candidate) → recordSound r ≡ true → recordSound (captureAt r h k candidate .own) ≡ true
 unfolding captureAt
-capture-sound r h k cand s = rw s (sound-after r (captureOf (world (recordAt r) h k) cand) s)
+capture-sound r h k candidate s = rw s (sound-after r (captureOf (world (recordAt r) h k) candidate) s)
 
 -- ---- a step
 
@@ -114,5 +114,5 @@ unfolding setupAnswer capsOf
 damaged-refused page create area caps chunk attempts room h =
     let p = planOf page create area caps chunk attempts room in
     by-test (holds (planTests p))
-    (λ t. clash {t = p .caps .ext} (and-left _ _ (each (planTests p) t 5)) (rw (lt-leb caps mostCaps h)))
+    (λ t. clash {t = p .caps .extended} (and-left _ _ (each (planTests p) t 5)) (rw (lt-leb caps mostCaps h)))
     (λ f. rw f)

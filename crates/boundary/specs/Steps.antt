@@ -7,9 +7,9 @@ use mathlib.Core.Bool.{Bool, true, false, not, _&&_}
 use lib.ListN.{length}
 use lib.Dec.{leb}
 use borrow.Author.Tests.{eq-eqb, ne-eqb, not-true, not-false}
-use Rattle.basics.specs.Choice.{pick}
-use Rattle.basics.specs.Tests.{by-test, clash}
-use Rattle.parts.specs.Parts.{zeros}
+use Rattle.choices.specs.Choice.{pick}
+use Rattle.choices.specs.Tests.{by-test, clash}
+use Rattle.copies.specs.Parts.{zeros}
 use Rattle.answers.specs.Answers.{success, disagree, badSetup}
 use Rattle.answers.specs.declared.Status.{Status}
 use Rattle.pages.specs.declared.Caps.{Caps}
@@ -110,63 +110,63 @@ module _ (caps : ℕ) (i : Identity) {c : Caps} {r : Record} {t : Bool} (ec : c 
 pub kept-record : (r : List ℕ) (o : Outcome) → (o .answer ≡ success → ⊥) → r ≡ recordAfter r o
 kept-record r o n = rw (ne-eqb (o .answer) success n)
 
-written-record : (r : List ℕ) (o : Outcome) → o .answer ≡ success → recordBytes (o .world .drive) ≡ recordAfter r o
+written-record : (r : List ℕ) (o : Outcome) → o .answer ≡ success → recordBytes (o .world .own) ≡ recordAfter r o
 written-record r o e = rw (eq-eqb (o .answer) success e)
 
-module _ (r h k : List ℕ) (cand : Candidate) where
+module _ (r h k : List ℕ) (candidate : Candidate) where
   module _ (words : Words) (buf : List ℕ) where
-    pub command-damaged : {t : Bool} → t ≡ recordSound r → not t ≡ true → did disagree 0 r h buf ≡ commandAt r h k cand words buf
+    pub command-damaged : {t : Bool} → t ≡ recordSound r → not t ≡ true → did disagree 0 r h buf ≡ commandAt r h k candidate words buf
     unfolding commandAt
     command-damaged e f = rw (sym e ∙ not-true _ f)
 
     command-sound : {t : Bool} → t ≡ recordSound r → not t ≡ false
-        → didOf r (commandOf (world (recordAt r) h k) cand words buf) ≡ commandAt r h k cand words buf
+        → didOf r (commandOf (world (recordAt r) h k) candidate words buf) ≡ commandAt r h k candidate words buf
     unfolding commandAt
     command-sound e f = rw (sym e ∙ not-false _ f)
 
     pub command-refused : {t : Bool} {z y : Record} {v : Words} {answer class : ℕ} {host out : List ℕ} → t ≡ recordSound r → not t ≡ false
-        → z ≡ recordAt r → v ≡ words → outcome answer class (world y host k) out ≡ commandOf (world z h k) cand v buf
+        → z ≡ recordAt r → v ≡ words → outcome answer class (world y host k) out ≡ commandOf (world z h k) candidate v buf
         → (answer ≡ success → ⊥)
-        → did answer class r host out ≡ commandAt r h k cand words buf
+        → did answer class r host out ≡ commandAt r h k candidate words buf
     command-refused {y = y} {answer = answer} {class = class} {host = host} {out = out} e f z v o n =
-        let same : outcome answer class (world y host k) out ≡ commandOf (world (recordAt r) h k) cand words buf = cc in
+        let same : outcome answer class (world y host k) out ≡ commandOf (world (recordAt r) h k) candidate words buf = cc in
         ap (λ (x : List ℕ). did answer class x host out) (kept-record r (outcome answer class (world y host k) out) n)
         ∙ ap (didOf r) same
         ∙ command-sound e f
 
     pub command-done : {t : Bool} {z y : Record} {v : Words} {answer class : ℕ} {w host out : List ℕ} → t ≡ recordSound r → not t ≡ false
-        → z ≡ recordAt r → v ≡ words → outcome answer class (world y host k) out ≡ commandOf (world z h k) cand v buf
+        → z ≡ recordAt r → v ≡ words → outcome answer class (world y host k) out ≡ commandOf (world z h k) candidate v buf
         → answer ≡ success → w ≡ recordBytes y
-        → did answer class w host out ≡ commandAt r h k cand words buf
+        → did answer class w host out ≡ commandAt r h k candidate words buf
     command-done {y = y} {answer = answer} {class = class} {host = host} {out = out} e f z v o n w =
-        let same : outcome answer class (world y host k) out ≡ commandOf (world (recordAt r) h k) cand words buf = cc in
+        let same : outcome answer class (world y host k) out ≡ commandOf (world (recordAt r) h k) candidate words buf = cc in
         ap (λ (x : List ℕ). did answer class x host out) (w ∙ written-record r (outcome answer class (world y host k) out) n)
         ∙ ap (didOf r) same
         ∙ command-sound e f
 
-  pub capture-damaged : {t : Bool} → t ≡ recordSound r → not t ≡ true → took disagree r k ≡ captureAt r h k cand
+  pub capture-damaged : {t : Bool} → t ≡ recordSound r → not t ≡ true → took disagree r k ≡ captureAt r h k candidate
   unfolding captureAt
   capture-damaged e f = rw (sym e ∙ not-true _ f)
 
   capture-sound : {t : Bool} → t ≡ recordSound r → not t ≡ false
-      → tookOf r (captureOf (world (recordAt r) h k) cand) ≡ captureAt r h k cand
+      → tookOf r (captureOf (world (recordAt r) h k) candidate) ≡ captureAt r h k candidate
   unfolding captureAt
   capture-sound e f = rw (sym e ∙ not-false _ f)
 
-  pub capture-refused : {t : Bool} {z y : Record} {answer class : ℕ} {ctrl none : List ℕ} → t ≡ recordSound r → not t ≡ false
-      → z ≡ recordAt r → outcome answer class (world y h ctrl) none ≡ captureOf (world z h k) cand → (answer ≡ success → ⊥)
-      → took answer r ctrl ≡ captureAt r h k cand
-  capture-refused {y = y} {answer = answer} {class = class} {ctrl = ctrl} {none = none} e f z o n =
-      let same : outcome answer class (world y h ctrl) none ≡ captureOf (world (recordAt r) h k) cand = cc in
-      ap (λ (x : List ℕ). took answer x ctrl) (kept-record r (outcome answer class (world y h ctrl) none) n)
+  pub capture-refused : {t : Bool} {z y : Record} {answer class : ℕ} {controller none : List ℕ} → t ≡ recordSound r → not t ≡ false
+      → z ≡ recordAt r → outcome answer class (world y h controller) none ≡ captureOf (world z h k) candidate → (answer ≡ success → ⊥)
+      → took answer r controller ≡ captureAt r h k candidate
+  capture-refused {y = y} {answer = answer} {class = class} {controller = controller} {none = none} e f z o n =
+      let same : outcome answer class (world y h controller) none ≡ captureOf (world (recordAt r) h k) candidate = cc in
+      ap (λ (x : List ℕ). took answer x controller) (kept-record r (outcome answer class (world y h controller) none) n)
       ∙ ap (tookOf r) same
       ∙ capture-sound e f
 
-  pub capture-done : {t : Bool} {z y : Record} {answer class : ℕ} {w ctrl none : List ℕ} → t ≡ recordSound r → not t ≡ false
-      → z ≡ recordAt r → outcome answer class (world y h ctrl) none ≡ captureOf (world z h k) cand → answer ≡ success → w ≡ recordBytes y
-      → took answer w ctrl ≡ captureAt r h k cand
-  capture-done {y = y} {answer = answer} {class = class} {ctrl = ctrl} {none = none} e f z o n w =
-      let same : outcome answer class (world y h ctrl) none ≡ captureOf (world (recordAt r) h k) cand = cc in
-      ap (λ (x : List ℕ). took answer x ctrl) (w ∙ written-record r (outcome answer class (world y h ctrl) none) n)
+  pub capture-done : {t : Bool} {z y : Record} {answer class : ℕ} {w controller none : List ℕ} → t ≡ recordSound r → not t ≡ false
+      → z ≡ recordAt r → outcome answer class (world y h controller) none ≡ captureOf (world z h k) candidate → answer ≡ success → w ≡ recordBytes y
+      → took answer w controller ≡ captureAt r h k candidate
+  capture-done {y = y} {answer = answer} {class = class} {controller = controller} {none = none} e f z o n w =
+      let same : outcome answer class (world y h controller) none ≡ captureOf (world (recordAt r) h k) candidate = cc in
+      ap (λ (x : List ℕ). took answer x controller) (w ∙ written-record r (outcome answer class (world y h controller) none) n)
       ∙ ap (tookOf r) same
       ∙ capture-sound e f

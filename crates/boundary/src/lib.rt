@@ -9,13 +9,13 @@ use course::Plan;
 use records::Identity;
 use words::Words;
 ghost use mathlib.Core.Path.{_≡_};
-ghost use Rattle.basics.specs.Choice.{pick};
+ghost use Rattle.choices.specs.Choice.{pick};
 ghost use Rattle.answers.specs.Answers.{success, disagree, statusOf};
 ghost use Rattle.classes.specs.Classes.{classOf};
 ghost use Rattle.words.specs.Words.{builtOf};
 ghost use Rattle.header.specs.Header.{checkOf};
 ghost use Rattle.collection.specs.Collection.{setupOf};
-ghost use Rattle.controller.specs.Controller.{candidate};
+ghost use Rattle.controller.specs.Controller.{candidateOf};
 ghost use Rattle.layouts.specs.Layouts.{stateBytes, nextBytes, fieldsBytes};
 ghost use Rattle.boundary.specs.Boundary.{flagOf, wordsList, wordsOf, numberOf, kindOf, planOf, stood, stepAt, identityOf, freshOk, freshBytes, did, commandAt, took, captureAt};
 
@@ -174,30 +174,30 @@ pub extern "C" fn bumbazeel_fresh(
     oui: u32,
     host_scope: u8,
     controller_scope: u8,
-    drive: &mut [u8; 300],
+    own: &mut [u8; 300],
 ) -> u8
-    ensures { λ r. ⌜ (r ≡ pick (freshOk caps (identityOf oui «host_scope» «controller_scope»)) success disagree) × (now (drive .exit) ≡ freshBytes caps (identityOf oui «host_scope» «controller_scope»)) ⌝ }
+    ensures { λ r. ⌜ (r ≡ pick (freshOk caps (identityOf oui «host_scope» «controller_scope»)) success disagree) × (now (own .exit) ≡ freshBytes caps (identityOf oui «host_scope» «controller_scope»)) ⌝ }
 {
     let fresh = records::fresh(
         layouts::read_caps(caps),
         Identity {
             oui,
             hostscope: host_scope,
-            ctrlscope: controller_scope,
+            controllerscope: controller_scope,
         },
     );
     if (caps <= layouts::MOST_CAPS) & records::agrees(fresh, 0, 0) {
-        *drive = layouts::write_record(fresh);
+        *own = layouts::write_record(fresh);
         return answers::SUCCESS;
     }
-    *drive = [0; 300];
+    *own = [0; 300];
     answers::DISAGREE
 }
 
 // Answers a command: writes record, host store and buffer where it succeeds, and the class.
 #[no_mangle]
 pub extern "C" fn bumbazeel_command(
-    drive: &mut [u8; 300],
+    own: &mut [u8; 300],
     host_store: &mut [u8],
     controller_store: &[u8],
     last: &[u32; 4],
@@ -207,9 +207,9 @@ pub extern "C" fn bumbazeel_command(
     buffer: &mut [u8],
     class: &mut u8,
 ) -> u8
-    ensures { λ r. ⌜ did r (now (class .exit)) (now (drive .exit)) (now («host_store» .exit)) (now (buffer .exit)) ≡ commandAt (now (drive .entry)) (now («host_store» .entry)) (now («controller_store» .entry)) (candidate (now (last .entry)) (now (bytes .entry)) (now (reason .entry))) (wordsOf (now (words .entry))) (now (buffer .entry)) ⌝ }
+    ensures { λ r. ⌜ did r (now (class .exit)) (now (own .exit)) (now («host_store» .exit)) (now (buffer .exit)) ≡ commandAt (now (own .entry)) (now («host_store» .entry)) (now («controller_store» .entry)) (candidateOf (now (last .entry)) (now (bytes .entry)) (now (reason .entry))) (wordsOf (now (words .entry))) (now (buffer .entry)) ⌝ }
 {
-    let lent = *drive;
+    let lent = *own;
     if !layouts::record_sound(&lent) {
         *class = 0;
         return answers::DISAGREE;
@@ -229,24 +229,24 @@ pub extern "C" fn bumbazeel_command(
     if answer != answers::SUCCESS {
         return answer;
     }
-    let after = x.drive;
-    *drive = layouts::write_record(after);
+    let after = x.own;
+    *own = layouts::write_record(after);
     answer
 }
 
 // Takes a capture of the controller's own: writes record and controller store where it succeeds.
 #[no_mangle]
 pub extern "C" fn bumbazeel_capture(
-    drive: &mut [u8; 300],
+    own: &mut [u8; 300],
     host_store: &[u8],
     controller_store: &mut [u8],
     last: &[u32; 4],
     bytes: &[u8],
     reason: &[u8],
 ) -> u8
-    ensures { λ r. ⌜ took r (now (drive .exit)) (now («controller_store» .exit)) ≡ captureAt (now (drive .entry)) (now («host_store» .entry)) (now («controller_store» .entry)) (candidate (now (last .entry)) (now (bytes .entry)) (now (reason .entry))) ⌝ }
+    ensures { λ r. ⌜ took r (now (own .exit)) (now («controller_store» .exit)) ≡ captureAt (now (own .entry)) (now («host_store» .entry)) (now («controller_store» .entry)) (candidateOf (now (last .entry)) (now (bytes .entry)) (now (reason .entry))) ⌝ }
 {
-    let lent = *drive;
+    let lent = *own;
     if !layouts::record_sound(&lent) {
         return answers::DISAGREE;
     }
@@ -262,7 +262,7 @@ pub extern "C" fn bumbazeel_capture(
     if answer != answers::SUCCESS {
         return answer;
     }
-    let after = taken.drive;
-    *drive = layouts::write_record(after);
+    let after = taken.own;
+    *own = layouts::write_record(after);
     answer
 }

@@ -5,7 +5,7 @@ use mathlib.Core.Path.{_≡_, refl}
 use mathlib.Core.Bool.{Bool, _&&_, _||_}
 use mathlib.Core.List.{[], _∷_, map}
 use lib.Dec.{leb, eqb}
-use Rattle.basics.specs.Choice.{pick}
+use Rattle.choices.specs.Choice.{pick}
 
 -- an identifier from low to high, both included
 abbrev pub within : ℕ → ℕ → ℕ → Bool

@@ -1,6 +1,6 @@
 // The class of each page identifier, which an answer 2 (Invalid Log Page) comes with.
 //
-// It rests on basics, for the words of its rule. It promises that the table has at every identifier the class that document 01's
+// It rests on choices, for the words of its rule. It promises that the table has at every identifier the class that document 01's
 // ranges say (specs/Classes.antt), and that the classes' counts are the document's.
 ghost use mathlib.Core.Path.{_≡_};
 ghost use Rattle.classes.specs.Classes.{classOf};

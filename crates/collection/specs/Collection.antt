@@ -6,9 +6,9 @@ use mathlib.Core.List.{List, [], _∷_}
 use mathlib.Core.Bool.{Bool, false, not, _&&_}
 use lib.ListN.{length}
 use lib.Dec.{leb, eqb}
-use Rattle.basics.specs.Choice.{pick, firstThat}
-use Rattle.basics.specs.Tests.{holds}
-use Rattle.parts.specs.Parts.{zeros, putAt}
+use Rattle.choices.specs.Choice.{pick, firstThat}
+use Rattle.choices.specs.Tests.{holds}
+use Rattle.copies.specs.Parts.{zeros, putAt}
 use Rattle.answers.specs.Answers.{success, badSetup, alreadyEnded, doesNotFit}
 use Rattle.pages.specs.Pages.{block, most4}
 use Rattle.words.specs.declared.Words.{Words}

@@ -8,7 +8,7 @@ use mathlib.Core.Bool.{Bool, true, false}
 use native.Mathlib.Omega.{arith}
 use native.Mathlib.Nat.{sub-zero}
 use lib.ListN.{length, take}
-use Rattle.parts.specs.Parts.{zeros, length-zeros, put, put-fits, put-length, put-end, put-whole}
+use Rattle.copies.specs.Parts.{zeros, length-zeros, put, put-fits, put-length, put-end, put-whole}
 use Rattle.answers.specs.Answers.{success}
 use Rattle.pages.specs.Pages.{block}
 use Rattle.words.specs.declared.Words.{Words}

@@ -8,11 +8,11 @@ use native.Mathlib.Omega.{arith}
 use lib.ListN.{length}
 use lib.Dec.{leb, eqb}
 use borrow.Author.Tests.{leb-true, leb-false, eqb-true, eqb-false, ne-eqb}
-use Rattle.basics.specs.Choice.{pick, pick-cases, firstThat}
-use Rattle.basics.specs.Tests.{each, and-left, and-right, clash}
-use Rattle.parts.specs.Parts.{zeros, put-not}
+use Rattle.choices.specs.Choice.{pick, pick-cases, firstThat}
+use Rattle.choices.specs.Tests.{each, and-left, and-right, clash}
+use Rattle.copies.specs.Parts.{zeros, put-not}
 use Rattle.answers.specs.Answers.{success, badHeader, noRoom, attemptsUsedUp, withdrawn, nothing, brokeItsWord, badSetup, alreadyEnded, doesNotFit}
-use Rattle.pages.specs.Pages.{ctrlPage}
+use Rattle.pages.specs.Pages.{controllerPage}
 use Rattle.course.specs.declared.Phase.{Phase}
 use Rattle.course.specs.declared.Phase.the-variants.{First, Chunk, Close, CloseRefused, Ack, Ended}
 use Rattle.course.specs.declared.Seen.{Seen}
@@ -115,7 +115,7 @@ pub record Moves (P : Move → Type 0) (s : Collection) (ok : Bool) (h : Seen) :
   pub again : closingBy (s .phase) ≡ true → s .attempt < s .plan .attempts → fitsRoom (s .plan) (h .last) ≡ true → P (Open true)
   pub more : (at : ℕ) → s .phase ≡ Chunk at → ok ≡ true → P (More at)
   pub skip : (at : ℕ) → s .phase ≡ Chunk at → P Skip
-  pub acknowledge : s .phase ≡ Close → s .plan .page ≡ ctrlPage → P Acknowledge
+  pub acknowledge : s .phase ≡ Close → s .plan .page ≡ controllerPage → P Acknowledge
   pub stand : s .phase ≡ Close → P (Done false)
   pub done : s .phase ≡ Ack → P (Done (newerThan s h))
 
@@ -142,7 +142,7 @@ module _ (P : Move → Type 0) (s : Collection) (ok : Bool) (h : Seen) (m : Move
       (λ n. pick-cases P (matches s h && refused) (λ b. m .fail brokeItsWord (omega arith))
       (λ b. pick-cases P (matches s h)
       (λ q. let c : s .phase ≡ Close = close (rw q at b) in
-      pick-cases P (eqb (s .plan .page) ctrlPage) (λ w. m .acknowledge c (eqb-true (s .plan .page) ctrlPage w)) (λ w. m .stand c))
+      pick-cases P (eqb (s .plan .page) controllerPage) (λ w. m .acknowledge c (eqb-true (s .plan .page) controllerPage w)) (λ w. m .stand c))
       (λ q. mismatch f)))))
 
   by-phase : (f : Phase) → s .phase ≡ f → P (judgeBy f (s .plan) (s .attempt) (matches s h) (newerThan s h) ok h)

@@ -8,10 +8,10 @@ use mathlib.Core.Bool.{Bool, true, false}
 use lib.ListN.{length}
 use lib.Dec.{eqb}
 use borrow.Author.Tests.{eq-eqb, ne-eqb, le-leb, lt-leb}
-use Rattle.basics.specs.Choice.{pick}
-use Rattle.basics.specs.Tests.{each, clash}
+use Rattle.choices.specs.Choice.{pick}
+use Rattle.choices.specs.Tests.{each, clash}
 use Rattle.answers.specs.Answers.{success, badHeader, noRoom, attemptsUsedUp, withdrawn, nothing, brokeItsWord}
-use Rattle.pages.specs.Pages.{ctrlPage}
+use Rattle.pages.specs.Pages.{controllerPage}
 use Rattle.course.specs.declared.Plan.{Plan}
 use Rattle.course.specs.declared.Phase.{Phase}
 use Rattle.course.specs.declared.Phase.the-variants.{First, Chunk, Close, CloseRefused, Ack, Ended}
@@ -189,12 +189,12 @@ module _ (s : Collection) (ok : Bool) (d : List ℕ) (n : ℕ) (r : refusalOf s 
         unfolding actOf laterJudge
         later-broke q z = later (Fail brokeItsWord false) (rw (q, k, g, w, z))
 
-        pub later-done : matches s (lookOf s d) ≡ true → refusedBy (s .phase) ≡ false → eqb (s .plan .page) ctrlPage ≡ false
+        pub later-done : matches s (lookOf s d) ≡ true → refusedBy (s .phase) ≡ false → eqb (s .plan .page) controllerPage ≡ false
             → stepOf s ok d n ≡ ends s false success false
         unfolding actOf laterJudge
         later-done q z p = later (Done false) (rw (q, k, g, w, z, p))
 
-        pub later-acknowledges : matches s (lookOf s d) ≡ true → refusedBy (s .phase) ≡ false → eqb (s .plan .page) ctrlPage ≡ true
+        pub later-acknowledges : matches s (lookOf s d) ≡ true → refusedBy (s .phase) ≡ false → eqb (s .plan .page) controllerPage ≡ true
             → stepOf s ok d n ≡ sends (inPhase s Ack)
         unfolding actOf laterJudge
         later-acknowledges q z p = later Acknowledge (rw (q, k, g, w, z, p))

@@ -1,7 +1,7 @@
 // A collection of a telemetry page: a state by value, and a step that takes a completion and gives the next state, with the next
 // command or the ending.
 //
-// It rests on basics, parts, answers, pages, words and course, and knows no controller. It promises, for any state, any completion and any
+// It rests on choices, copies, answers, pages, words and course, and knows no controller. It promises, for any state, any completion and any
 // copy, the answer and every byte of the copy afterwards (specs/Collection.antt). What decides (`decide`) never looks at a chunk's bytes
 // nor at the copy; `step` looks at the data, lets it decide, and moves the bytes.
 use course::Move;
@@ -110,7 +110,7 @@ impl Collection {
         let phase = self.phase;
         let last = self.last;
         let due = course::expected(phase, plan, last);
-        (copy == plan.room) & (bytes == basics::pick_usize(ok, due, 0))
+        (copy == plan.room) & (bytes == choices::pick_usize(ok, due, 0))
     }
 
     // 14, 13, 15, or 0.
@@ -121,9 +121,9 @@ impl Collection {
         let over = ended(phase);
         let bad = !self.state_ok();
         let unfit = !self.completion_fits(ok, bytes, copy);
-        let fit = basics::pick_u8(unfit, answers::DOES_NOT_FIT, answers::SUCCESS);
-        let kept = basics::pick_u8(bad, answers::BAD_SETUP, fit);
-        basics::pick_u8(over, answers::ALREADY_ENDED, kept)
+        let fit = choices::pick_u8(unfit, answers::DOES_NOT_FIT, answers::SUCCESS);
+        let kept = choices::pick_u8(bad, answers::BAD_SETUP, fit);
+        choices::pick_u8(over, answers::ALREADY_ENDED, kept)
     }
 
     // The header seen matches the attempt's header.
@@ -176,7 +176,7 @@ impl Collection {
         requires { ⌜ self .attempt ≤ mostAttempts ⌝ }
         ensures { λ r. ⌜ r ≡ attemptOf self next ⌝ }
     {
-        basics::pick_u32(next, self.attempt + 1, self.attempt)
+        choices::pick_u32(next, self.attempt + 1, self.attempt)
     }
 
     fn opened(self, next: bool, h: Seen) -> Collection
@@ -324,7 +324,7 @@ fn move_bytes(touch: Touch, data: &[u8], copy: &mut [u8])
 {
     match touch {
         Touch::Nothing => (),
-        Touch::Place(place) => parts::put(data, copy, place),
+        Touch::Place(place) => copies::put(data, copy, place),
         Touch::Tail(place) => zeros_from(copy, place),
         Touch::All => zeros_from(copy, 0),
     }
@@ -336,7 +336,7 @@ fn zeros_from(copy: &mut [u8], place: usize)
 {
     if place <= copy.len() {
         let left = copy.len() - place;
-        parts::put_zeros(left, copy, place);
+        copies::put_zeros(left, copy, place);
     }
 }
 

@@ -5,11 +5,11 @@ use mathlib.Core.List.{List, [], _++_}
 use mathlib.Core.Bool.{true, false, not, _&&_}
 use lib.ListN.{length, take, drop}
 use lib.Dec.{eqb}
-use Rattle.basics.specs.Choice.{pick}
-use Rattle.parts.specs.Parts.{zeros, putAt}
+use Rattle.choices.specs.Choice.{pick}
+use Rattle.copies.specs.Parts.{zeros, putAt}
 use Rattle.answers.specs.Answers.{success, invalidLogPage}
 use Rattle.classes.specs.Classes.{classOf}
-use Rattle.pages.specs.Pages.{hostPage, ctrlPage, block, lastOf, blocksOf, topOf, trimOf}
+use Rattle.pages.specs.Pages.{hostPage, controllerPage, block, lastOf, blocksOf, topOf, trimOf}
 use Rattle.words.specs.declared.Command.{Command}
 use Rattle.words.specs.declared.Words.{Words}
 use Rattle.words.specs.Words.{readOf}
@@ -24,12 +24,12 @@ use Rattle.verdicts.specs.Verdicts.{commandAnswer, captureAnswer}
 
 -- a controller's record and its two stores
 pub record World : Type 0 where
-  pub drive : Record
+  pub own : Record
   pub host : List ℕ
-  pub ctrl : List ℕ
+  pub controller : List ℕ
 
 abbrev pub world : Record → List ℕ → List ℕ → World
-world r h c = record { drive = r; host = h; ctrl = c }
+world r h c = record { own = r; host = h; controller = c }
 
 -- four last blocks, bytes and a reason
 pub record Candidate : Type 0 where
@@ -37,18 +37,18 @@ pub record Candidate : Type 0 where
   pub bytes : List ℕ
   pub reason : List ℕ
 
-abbrev pub candidate : List ℕ → List ℕ → List ℕ → Candidate
-candidate last bytes reason = record { last = last; bytes = bytes; reason = reason }
+abbrev pub candidateOf : List ℕ → List ℕ → List ℕ → Candidate
+candidateOf last bytes reason = record { last = last; bytes = bytes; reason = reason }
 
 -- ---- the page
 
 abbrev pub storeFor : ℕ → World → List ℕ
-storeFor page w = pick (eqb page hostPage) (w .host) (w .ctrl)
+storeFor page w = pick (eqb page hostPage) (w .host) (w .controller)
 
 -- the header, then the store's blocks
 unfoldable pub pageOf : ℕ → World → List ℕ
 pageOf page w =
-    pageBytes (headerOf (fieldsFor page (w .drive))) (storeFor page w) (blocksOf (w .drive .caps) (fieldsFor page (w .drive) .last))
+    pageBytes (headerOf (fieldsFor page (w .own))) (storeFor page w) (blocksOf (w .own .caps) (fieldsFor page (w .own) .last))
 
 -- ---- captures and the acknowledgement
 
@@ -62,16 +62,16 @@ hostTaken r last reason = record {
   caps = r .caps;
   identity = r .identity;
   host = record { last = last; generation = nextGeneration (r .host .generation); reason = reason };
-  ctrl = r .ctrl;
+  controller = r .controller;
 }
 
 -- and on 08h: TCDA and the notice are set
-abbrev pub ctrlTaken : Record → List ℕ → List ℕ → Record
-ctrlTaken r last reason = record {
+abbrev pub controllerTaken : Record → List ℕ → List ℕ → Record
+controllerTaken r last reason = record {
   caps = r .caps;
   identity = r .identity;
   host = r .host;
-  ctrl = record { last = last; generation = nextGeneration (r .ctrl .generation); tcda = 1; notice = true; reason = reason };
+  controller = record { last = last; generation = nextGeneration (r .controller .generation); tcda = 1; notice = true; reason = reason };
 }
 
 -- the record with TCDA, the notice and the four last blocks of 08h cleared; reason and generation stay
@@ -80,25 +80,25 @@ clearedOf r = record {
   caps = r .caps;
   identity = r .identity;
   host = r .host;
-  ctrl = record { last = zeros 4; generation = r .ctrl .generation; tcda = 0; notice = false; reason = r .ctrl .reason };
+  controller = record { last = zeros 4; generation = r .controller .generation; tcda = 0; notice = false; reason = r .controller .reason };
 }
 
 -- a store with a candidate's first blocks, the rest as it was
 abbrev pub keptIn : List ℕ → Candidate → ℕ → List ℕ
-keptIn store cand blocks = putAt store 0 (take (block * blocks) (cand .bytes))
+keptIn store candidate blocks = putAt store 0 (take (block * blocks) (candidate .bytes))
 
 -- a host capture under an MCDA
 unfoldable pub hostCaptured : World → Candidate → ℕ → World
-hostCaptured w cand mcda =
-    world (hostTaken (w .drive) (trimOf (w .drive .caps) mcda (cand .last)) (cand .reason))
-    (keptIn (w .host) cand (lastOf (topOf (w .drive .caps) mcda) (cand .last)))
-    (w .ctrl)
+hostCaptured w candidate mcda =
+    world (hostTaken (w .own) (trimOf (w .own .caps) mcda (candidate .last)) (candidate .reason))
+    (keptIn (w .host) candidate (lastOf (topOf (w .own .caps) mcda) (candidate .last)))
+    (w .controller)
 
 -- a capture on 08h, which has no MCDA
-unfoldable pub ctrlCaptured : World → Candidate → World
-ctrlCaptured w cand =
-    world (ctrlTaken (w .drive) (trimOf (w .drive .caps) 0 (cand .last)) (cand .reason)) (w .host)
-    (keptIn (w .ctrl) cand (lastOf (topOf (w .drive .caps) 0) (cand .last)))
+unfoldable pub controllerCaptured : World → Candidate → World
+controllerCaptured w candidate =
+    world (controllerTaken (w .own) (trimOf (w .own .caps) 0 (candidate .last)) (candidate .reason)) (w .host)
+    (keptIn (w .controller) candidate (lastOf (topOf (w .own .caps) 0) (candidate .last)))
 
 -- ---- a command
 
@@ -117,12 +117,12 @@ abbrev pub classFor : ℕ → ℕ → ℕ
 classFor answer page = pick (eqb answer invalidLogPage) (classOf page) 0
 
 abbrev pub lentBy : World → Candidate → List ℕ → Lent
-lentBy w cand buf =
-    record { host = length (w .host); ctrl = length (w .ctrl); bytes = length (cand .bytes); reason = length (cand .reason); buf = length buf }
+lentBy w candidate buf =
+    record { host = length (w .host); controller = length (w .controller); bytes = length (candidate .bytes); reason = length (candidate .reason); buf = length buf }
 
 -- a create captures before the transfer
 unfoldable pub before : World → Candidate → Command → World
-before w cand c = pick (c .create) (hostCaptured w cand (c .mcda)) w
+before w candidate c = pick (c .create) (hostCaptured w candidate (c .mcda)) w
 
 -- the page's bytes from the offset, zeros past its end; the buffer beyond the transfer stays
 unfoldable pub sentOf : World → Command → List ℕ → List ℕ
@@ -130,25 +130,25 @@ sentOf w c buf = windowOf (c .offset) (c .bytes) (pageOf (c .page) w) ++ drop (c
 
 -- on 08h RAE 0 clears after the transfer
 unfoldable pub afterwards : World → Command → World
-afterwards w c = pick (eqb (c .page) ctrlPage && not (c .rae)) (world (clearedOf (w .drive)) (w .host) (w .ctrl)) w
+afterwards w c = pick (eqb (c .page) controllerPage && not (c .rae)) (world (clearedOf (w .own)) (w .host) (w .controller)) w
 
 -- what an answer does: success captures, transfers and acknowledges, and anything else changes nothing
 unfoldable pub answered : World → Candidate → Command → List ℕ → ℕ → Outcome
-answered w cand c buf answer =
+answered w candidate c buf answer =
     pick (eqb answer success)
-    (outcome success 0 (afterwards (before w cand c) c) (sentOf (before w cand c) c buf))
+    (outcome success 0 (afterwards (before w candidate c) c) (sentOf (before w candidate c) c buf))
     (outcome answer (classFor answer (c .page)) w buf)
 
 -- what the words say, judged and done
 unfoldable pub commandOf : World → Candidate → Words → List ℕ → Outcome
-commandOf w cand words buf =
-    answered w cand (readOf (w .drive .caps .ext) words) buf
-    (commandAnswer (w .drive) (readOf (w .drive .caps .ext) words) (cand .last) (lentBy w cand buf))
+commandOf w candidate words buf =
+    answered w candidate (readOf (w .own .caps .extended) words) buf
+    (commandAnswer (w .own) (readOf (w .own .caps .extended) words) (candidate .last) (lentBy w candidate buf))
 
 -- ---- a capture on 08h
 
 unfoldable pub captureAnswered : World → Candidate → ℕ → Outcome
-captureAnswered w cand answer = pick (eqb answer success) (outcome success 0 (ctrlCaptured w cand) []) (outcome answer 0 w [])
+captureAnswered w candidate answer = pick (eqb answer success) (outcome success 0 (controllerCaptured w candidate) []) (outcome answer 0 w [])
 
 unfoldable pub captureOf : World → Candidate → Outcome
-captureOf w cand = captureAnswered w cand (captureAnswer (w .drive) (cand .last) (lentBy w cand []))
+captureOf w candidate = captureAnswered w candidate (captureAnswer (w .own) (candidate .last) (lentBy w candidate []))

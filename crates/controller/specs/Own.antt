@@ -8,18 +8,18 @@ use native.Mathlib.Omega.{arith}
 use lib.ListN.{length, take, drop}
 use lib.Dec.{leb, eqb}
 use borrow.Author.Tests.{eq-eqb, leb-true, leb-false, le-leb, lt-leb}
-use Rattle.basics.specs.Choice.{pick}
-use Rattle.basics.specs.Tests.{holds, by-test, each, clash}
+use Rattle.choices.specs.Choice.{pick}
+use Rattle.choices.specs.Tests.{holds, by-test, each, clash}
 use Rattle.answers.specs.Answers.{success, invalidField}
 use Rattle.pages.specs.declared.Caps.{Caps}
-use Rattle.pages.specs.Pages.{hostPage, ctrlPage, telemetryPage, block, blocksOf, sizeOf, lastOf, topOf}
+use Rattle.pages.specs.Pages.{hostPage, controllerPage, telemetryPage, block, blocksOf, sizeOf, lastOf, topOf}
 use Rattle.words.specs.declared.Command.{Command}
 use Rattle.words.specs.declared.Words.{Words}
 use Rattle.words.specs.Words.{taken, builtOf}
 use Rattle.words.specs.Back.{meant, built-back}
 use Rattle.header.specs.Header.{headerOf}
 use Rattle.header.specs.Back.{header-length}
-use Rattle.records.specs.Records.{hostFields, ctrlFields, fieldsFor}
+use Rattle.records.specs.Records.{hostFields, controllerFields, fieldsFor}
 use Rattle.records.specs.Back.{Sized}
 use Rattle.serving.specs.Serving.{windowOf, window-header}
 use Rattle.serving.specs.Runs.{window-area}
@@ -33,8 +33,8 @@ use Rattle.controller.specs.Laws.{Agrees, Typed, create-typed, asked, ve
 -- what a collection asks of a controller at setup, and what its own commands are lent
 pub record Ready (w : World) (bytes : ℕ) (buf : List ℕ) : Type 0 where
   pub agrees : Agrees w
-  pub extended : w .drive .caps .ext ≡ true
-  pub telemetry : w .drive .caps .tel ≡ true
+  pub extended : w .own .caps .extended ≡ true
+  pub telemetry : w .own .caps .telemetry ≡ true
   pub room : bytes ≤ length buf
 
 -- the words of a command
@@ -42,14 +42,14 @@ abbrev pub sends : ℕ → Bool → ℕ → Bool → ℕ → ℕ → Words
 sends page create mcda rae offset blocks = builtOf page create mcda rae offset blocks .words
 
 -- which are read to what they mean
-pub asked-is : (w : World) (page : ℕ) (create : Bool) (mcda : ℕ) (rae : Bool) (offset blocks : ℕ) → w .drive .caps .ext ≡ true
+pub asked-is : (w : World) (page : ℕ) (create : Bool) (mcda : ℕ) (rae : Bool) (offset blocks : ℕ) → w .own .caps .extended ≡ true
     → taken page create mcda offset blocks ≡ true
     → asked w (sends page create mcda rae offset blocks) ≡ meant page create mcda rae offset blocks
 asked-is w page create mcda rae offset blocks e t =
     rw e (built-back true page create mcda rae offset blocks t (λ n. clash refl n) .1)
 
 -- and have no invalid field
-pub valid : (caps : Caps) (page : ℕ) (create : Bool) (mcda : ℕ) (rae : Bool) (offset blocks : ℕ) → caps .ext ≡ true → mcda ≤ 4
+pub valid : (caps : Caps) (page : ℕ) (create : Bool) (mcda : ℕ) (rae : Bool) (offset blocks : ℕ) → caps .extended ≡ true → mcda ≤ 4
     → fieldBad caps (meant page create mcda rae offset blocks) ≡ false
 unfolding fieldBad
 valid caps page create mcda rae offset blocks e m =
@@ -72,8 +72,8 @@ mcda-taken page create mcda offset blocks t = leb-true _ _ (each _ t 2)
 
 -- without create the last blocks are those that the page's header shows
 pub last-read : (w : World) (page : ℕ) (rae : Bool) (offset blocks : ℕ) (a : List ℕ)
-    → lastAfter (w .drive) (meant page false 0 rae offset blocks) a ≡ fieldsFor page (w .drive) .last
-unfolding lastAfter fieldsFor hostFields ctrlFields
+    → lastAfter (w .own) (meant page false 0 rae offset blocks) a ≡ fieldsFor page (w .own) .last
+unfolding lastAfter fieldsFor hostFields controllerFields
 last-read w page rae offset blocks a = by-test (eqb page hostPage) (λ e. rw e) (λ e. rw e)
 
 -- ---- a read
@@ -85,21 +85,21 @@ readDone w page rae offset blocks buf =
     (windowOf (block * offset) (block * blocks) (pageOf page w) ++ drop (block * blocks) buf)
 
 -- Served where the offset is within the page's size, refused with 1 where it is not.
-pub own-read : (w : World) (cand : Candidate) (page : ℕ) (rae : Bool) (offset blocks : ℕ) (buf : List ℕ)
+pub own-read : (w : World) (candidate : Candidate) (page : ℕ) (rae : Bool) (offset blocks : ℕ) (buf : List ℕ)
     → Ready w (block * blocks) buf → taken page false 0 offset blocks ≡ true
-    → commandOf w cand (sends page false 0 rae offset blocks) buf
-    ≡ pick (leb (block * offset) (sizeOf (w .drive .caps) (fieldsFor page (w .drive) .last))) (readDone w page rae offset blocks buf)
+    → commandOf w candidate (sends page false 0 rae offset blocks) buf
+    ≡ pick (leb (block * offset) (sizeOf (w .own .caps) (fieldsFor page (w .own) .last))) (readDone w page rae offset blocks buf)
     (outcome invalidField 0 w buf)
 unfolding sentOf before
-own-read w cand page rae offset blocks buf k t =
-    by-test (leb (block * offset) (sizeOf (w .drive .caps) (fieldsFor page (w .drive) .last)))
+own-read w candidate page rae offset blocks buf k t =
+    by-test (leb (block * offset) (sizeOf (w .own .caps) (fieldsFor page (w .own) .last)))
     (λ h.
-    command-done w cand words buf (answer ∙ accepts (w .drive) c (cand .last) lent fair (rw (last-read w page rae offset blocks (cand .last)) (leb-true _ _ h)))
-    ∙ ap (λ (d : Command). outcome success 0 (afterwards (before w cand d) d) (sentOf (before w cand d) d buf)) e
+    command-done w candidate words buf (answer ∙ accepts (w .own) c (candidate .last) lent fair (rw (last-read w page rae offset blocks (candidate .last)) (leb-true _ _ h)))
+    ∙ ap (λ (d : Command). outcome success 0 (afterwards (before w candidate d) d) (sentOf (before w candidate d) d buf)) e
     ∙ rw h)
     (λ h.
-    let v = answer ∙ beyond-refused (w .drive) c (cand .last) lent fair (rw (last-read w page rae offset blocks (cand .last)) (leb-false _ _ h)) in
-    command-refused w cand words buf (λ z. absurd (omega (arith, sym v ∙ z)))
+    let v = answer ∙ beyond-refused (w .own) c (candidate .last) lent fair (rw (last-read w page rae offset blocks (candidate .last)) (leb-false _ _ h)) in
+    command-refused w candidate words buf (λ z. absurd (omega (arith, sym v ∙ z)))
     ∙ rw (v, h))
   where
     words : Words
@@ -109,20 +109,20 @@ own-read w cand page rae offset blocks buf k t =
     c = meant page false 0 rae offset blocks
 
     lent : Lent
-    lent = lentBy w cand buf
+    lent = lentBy w candidate buf
 
     e : asked w words ≡ c
     e = asked-is w page false 0 rae offset blocks (k .extended) t
 
-    answer : verdict w cand words buf ≡ commandAnswer (w .drive) c (cand .last) lent
-    answer = ap (λ (d : Command). commandAnswer (w .drive) d (cand .last) lent) e
+    answer : verdict w candidate words buf ≡ commandAnswer (w .own) c (candidate .last) lent
+    answer = ap (λ (d : Command). commandAnswer (w .own) d (candidate .last) lent) e
 
-    fair : Fair (w .drive) c (cand .last) lent
+    fair : Fair (w .own) c (candidate .last) lent
     fair = record {
       agrees = k .agrees;
       served = page-taken page false 0 offset blocks t;
       telemetry = k .telemetry;
-      valid = valid (w .drive .caps) page false 0 rae offset blocks (k .extended) (omega arith);
+      valid = valid (w .own .caps) page false 0 rae offset blocks (k .extended) (omega arith);
       candidate = refl;
       room = k .room;
     }
@@ -132,29 +132,29 @@ own-read w cand page rae offset blocks buf k t =
 -- with RAE 1, and on 07h, nothing is cleared
 pub retained : (w : World) (page : ℕ) (create : Bool) (mcda offset blocks : ℕ) → afterwards w (meant page create mcda true offset blocks) ≡ w
 unfolding afterwards
-retained w page create mcda offset blocks = by-test (eqb page ctrlPage) (λ e. rw e) (λ e. rw e)
+retained w page create mcda offset blocks = by-test (eqb page controllerPage) (λ e. rw e) (λ e. rw e)
 
-reason-long : (w : World) → Sized (w .drive) → (page : ℕ) → length (fieldsFor page (w .drive) .reason) ≡ 128
-unfolding fieldsFor hostFields ctrlFields
-reason-long w z page = by-test (eqb page hostPage) (λ e. rw e (z .host-reason)) (λ e. rw e (z .ctrl-reason))
+reason-long : (w : World) → Sized (w .own) → (page : ℕ) → length (fieldsFor page (w .own) .reason) ≡ 128
+unfolding fieldsFor hostFields controllerFields
+reason-long w z page = by-test (eqb page hostPage) (λ e. rw e (z .host-reason)) (λ e. rw e (z .controller-reason))
 
 pub header-taken : (page : ℕ) → telemetryPage page ≡ true → taken page false 0 0 1 ≡ true
 unfolding taken holds
 header-taken page p = rw p
 
-window-of-header : (w : World) (page : ℕ) → length (headerOf (fieldsFor page (w .drive))) ≡ block → windowOf 0 block (pageOf page w) ≡ headerOf (fieldsFor page (w .drive))
+window-of-header : (w : World) (page : ℕ) → length (headerOf (fieldsFor page (w .own))) ≡ block → windowOf 0 block (pageOf page w) ≡ headerOf (fieldsFor page (w .own))
 unfolding pageOf
-window-of-header w page e = window-header (headerOf (fieldsFor page (w .drive))) _ _ e
+window-of-header w page e = window-header (headerOf (fieldsFor page (w .own))) _ _ e
 
 -- A header command is always served, with the page's header.
-pub own-header : (w : World) (cand : Candidate) (page : ℕ) (rae : Bool) (buf : List ℕ) → Ready w block buf → Typed w → telemetryPage page ≡ true
-    → commandOf w cand (sends page false 0 rae 0 1) buf
-    ≡ outcome success 0 (afterwards w (meant page false 0 rae 0 1)) (headerOf (fieldsFor page (w .drive)) ++ drop block buf)
-own-header w cand page rae buf k z p =
-    own-read w cand page rae 0 1 buf k (header-taken page p)
-    ∙ rw (le-leb 0 (sizeOf (w .drive .caps) (fieldsFor page (w .drive) .last)) (omega arith))
+pub own-header : (w : World) (candidate : Candidate) (page : ℕ) (rae : Bool) (buf : List ℕ) → Ready w block buf → Typed w → telemetryPage page ≡ true
+    → commandOf w candidate (sends page false 0 rae 0 1) buf
+    ≡ outcome success 0 (afterwards w (meant page false 0 rae 0 1)) (headerOf (fieldsFor page (w .own)) ++ drop block buf)
+own-header w candidate page rae buf k z p =
+    own-read w candidate page rae 0 1 buf k (header-taken page p)
+    ∙ rw (le-leb 0 (sizeOf (w .own .caps) (fieldsFor page (w .own) .last)) (omega arith))
     (ap (λ (l : List ℕ). outcome success 0 (afterwards w (meant page false 0 rae 0 1)) (l ++ drop block buf))
-    (window-of-header w page (header-length (fieldsFor page (w .drive)) (reason-long w (z .sized) page))))
+    (window-of-header w page (header-length (fieldsFor page (w .own)) (reason-long w (z .sized) page))))
 
 -- ---- the first header with create
 
@@ -163,17 +163,17 @@ unfolding taken holds
 create-taken mcda h = rw (le-leb mcda 4 h)
 
 -- With a candidate that is not broken it captures and is served with the new page's header.
-pub own-create : (w : World) (cand : Candidate) (mcda : ℕ) (buf : List ℕ) → Ready w block buf → Typed w → mcda ≤ 4
-    → candidateOk (lastOf (topOf (w .drive .caps) mcda) (cand .last)) (cand .last) (length (cand .bytes)) (length (cand .reason)) (length (w .host)) ≡ true
-    → commandOf w cand (sends hostPage true mcda true 0 1) buf
-    ≡ outcome success 0 (hostCaptured w cand mcda) (headerOf (fieldsFor hostPage (hostCaptured w cand mcda .drive)) ++ drop block buf)
+pub own-create : (w : World) (candidate : Candidate) (mcda : ℕ) (buf : List ℕ) → Ready w block buf → Typed w → mcda ≤ 4
+    → candidateOk (lastOf (topOf (w .own .caps) mcda) (candidate .last)) (candidate .last) (length (candidate .bytes)) (length (candidate .reason)) (length (w .host)) ≡ true
+    → commandOf w candidate (sends hostPage true mcda true 0 1) buf
+    ≡ outcome success 0 (hostCaptured w candidate mcda) (headerOf (fieldsFor hostPage (hostCaptured w candidate mcda .own)) ++ drop block buf)
 unfolding sentOf
-own-create w cand mcda buf k y m f =
-    command-done w cand words buf (ap (λ (d : Command). commandAnswer (w .drive) d (cand .last) (lentBy w cand buf)) e ∙ accepts (w .drive) c (cand .last) (lentBy w cand buf) fair (omega arith))
-    ∙ ap (λ (d : Command). outcome success 0 (afterwards (before w cand d) d) (sentOf (before w cand d) d buf)) e
-    ∙ ap (λ (v : World). outcome success 0 (afterwards v c) (sentOf v c buf)) (captured w cand c refl)
-    ∙ ap (λ (v : World). outcome success 0 v (sentOf (hostCaptured w cand mcda) c buf)) (retained (hostCaptured w cand mcda) hostPage true mcda 0 1)
-    ∙ ap (λ (l : List ℕ). outcome success 0 (hostCaptured w cand mcda) (l ++ drop block buf)) (window-of-header (hostCaptured w cand mcda) hostPage long)
+own-create w candidate mcda buf k y m f =
+    command-done w candidate words buf (ap (λ (d : Command). commandAnswer (w .own) d (candidate .last) (lentBy w candidate buf)) e ∙ accepts (w .own) c (candidate .last) (lentBy w candidate buf) fair (omega arith))
+    ∙ ap (λ (d : Command). outcome success 0 (afterwards (before w candidate d) d) (sentOf (before w candidate d) d buf)) e
+    ∙ ap (λ (v : World). outcome success 0 (afterwards v c) (sentOf v c buf)) (captured w candidate c refl)
+    ∙ ap (λ (v : World). outcome success 0 v (sentOf (hostCaptured w candidate mcda) c buf)) (retained (hostCaptured w candidate mcda) hostPage true mcda 0 1)
+    ∙ ap (λ (l : List ℕ). outcome success 0 (hostCaptured w candidate mcda) (l ++ drop block buf)) (window-of-header (hostCaptured w candidate mcda) hostPage long)
   where
     words : Words
     words = sends hostPage true mcda true 0 1
@@ -184,28 +184,28 @@ own-create w cand mcda buf k y m f =
     e : asked w words ≡ c
     e = asked-is w hostPage true mcda true 0 1 (k .extended) (create-taken mcda m)
 
-    fair : Fair (w .drive) c (cand .last) (lentBy w cand buf)
+    fair : Fair (w .own) c (candidate .last) (lentBy w candidate buf)
     fair = record {
       agrees = k .agrees;
       served = refl;
       telemetry = k .telemetry;
-      valid = valid (w .drive .caps) hostPage true mcda true 0 1 (k .extended) m;
+      valid = valid (w .own .caps) hostPage true mcda true 0 1 (k .extended) m;
       candidate = ap not f;
       room = k .room;
     }
 
-    long : length (headerOf (fieldsFor hostPage (hostCaptured w cand mcda .drive))) ≡ block
+    long : length (headerOf (fieldsFor hostPage (hostCaptured w candidate mcda .own))) ≡ block
     long =
-        header-length (fieldsFor hostPage (hostCaptured w cand mcda .drive))
-        (reason-long (hostCaptured w cand mcda) (create-typed w cand mcda y (candidate-whole _ _ _ _ _ f .long) .sized) hostPage)
+        header-length (fieldsFor hostPage (hostCaptured w candidate mcda .own))
+        (reason-long (hostCaptured w candidate mcda) (create-typed w candidate mcda y (candidate-whole _ _ _ _ _ f .long) .sized) hostPage)
 
 -- ---- the blocks of an area
 
 -- Blocks that lie within the page are the store's.
 pub own-blocks : (w : World) (page at n : ℕ) → Typed w → Agrees w → telemetryPage page ≡ true → 1 ≤ at
-    → at + n ≤ blocksOf (w .drive .caps) (fieldsFor page (w .drive) .last) + 1
+    → at + n ≤ blocksOf (w .own .caps) (fieldsFor page (w .own) .last) + 1
     → windowOf (block * at) (block * n) (pageOf page w) ≡ take (block * n) (drop (block * (at - 1)) (storeFor page w))
 unfolding pageOf
 own-blocks w page at n t g p one end =
-    window-area (headerOf (fieldsFor page (w .drive))) (storeFor page w) (blocksOf (w .drive .caps) (fieldsFor page (w .drive) .last)) at n
-    (header-length (fieldsFor page (w .drive)) (reason-long w (t .sized) page)) (agreed-fits w g page p) one end
+    window-area (headerOf (fieldsFor page (w .own))) (storeFor page w) (blocksOf (w .own .caps) (fieldsFor page (w .own) .last)) at n
+    (header-length (fieldsFor page (w .own)) (reason-long w (t .sized) page)) (agreed-fits w g page p) one end

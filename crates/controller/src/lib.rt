@@ -3,7 +3,7 @@
 // It rests on all of the ground floor, on serving and on verdicts. It promises the answer, the record, both stores and the buffer after
 // any command and any capture, on any lent bytes, as one equation each (specs/Controller.antt). Everything is decided before anything is
 // written, so that what is refused changes nothing.
-use records::CtrlPage;
+use records::ControllerPage;
 use records::HostPage;
 use records::Record;
 use verdicts::Lent;
@@ -13,19 +13,19 @@ ghost use mathlib.Core.Path.{_≡_};
 ghost use mathlib.Core.List.{[]};
 ghost use Prim.Native.Nat.{_*_, _≤_};
 ghost use lib.ListN.{length, take};
-ghost use Rattle.basics.specs.Choice.{pick};
-ghost use Rattle.parts.specs.Parts.{putAt, zeros};
+ghost use Rattle.choices.specs.Choice.{pick};
+ghost use Rattle.copies.specs.Parts.{putAt, zeros};
 ghost use Rattle.pages.specs.Pages.{blocksOf};
 ghost use Rattle.header.specs.Header.{headerOf};
 ghost use Rattle.records.specs.Records.{fieldsFor};
 ghost use Rattle.serving.specs.Serving.{servedInto};
-ghost use Rattle.controller.specs.Controller.{hostTaken, ctrlTaken, clearedOf, classFor, world, candidate, outcome, commandOf, captureOf};
+ghost use Rattle.controller.specs.Controller.{hostTaken, controllerTaken, clearedOf, classFor, world, candidateOf, outcome, commandOf, captureOf};
 
 // The answer, with the identifier's class where it is 2 (else 0), and the record afterwards.
 pub struct Answered {
     pub answer: u8,
     pub class: u8,
-    pub drive: Record,
+    pub own: Record,
 }
 
 // ---- the record after a capture and after an acknowledgement
@@ -36,7 +36,7 @@ fn host_taken(r: Record, last: [u32; 4], reason: [u8; 128]) -> Record
     let caps = r.caps;
     let identity = r.identity;
     let old = r.host;
-    let ctrl = r.ctrl;
+    let controller = r.controller;
     let host = HostPage {
         last,
         generation: std::num::wrapping_add_u8(old.generation, 1),
@@ -46,18 +46,18 @@ fn host_taken(r: Record, last: [u32; 4], reason: [u8; 128]) -> Record
         caps,
         identity,
         host,
-        ctrl,
+        controller,
     }
 }
 
-fn ctrl_taken(r: Record, last: [u32; 4], reason: [u8; 128]) -> Record
-    ensures { λ x. ⌜ x ≡ ctrlTaken r last reason ⌝ }
+fn controller_taken(r: Record, last: [u32; 4], reason: [u8; 128]) -> Record
+    ensures { λ x. ⌜ x ≡ controllerTaken r last reason ⌝ }
 {
     let caps = r.caps;
     let identity = r.identity;
     let host = r.host;
-    let held = r.ctrl;
-    let ctrl = CtrlPage {
+    let held = r.controller;
+    let controller = ControllerPage {
         last,
         generation: std::num::wrapping_add_u8(held.generation, 1),
         tcda: 1,
@@ -68,7 +68,7 @@ fn ctrl_taken(r: Record, last: [u32; 4], reason: [u8; 128]) -> Record
         caps,
         identity,
         host,
-        ctrl,
+        controller,
     }
 }
 
@@ -78,9 +78,9 @@ fn cleared(r: Record) -> Record
     let caps = r.caps;
     let identity = r.identity;
     let host = r.host;
-    let old = r.ctrl;
+    let old = r.controller;
     let reason = old.reason;
-    let ctrl = CtrlPage {
+    let controller = ControllerPage {
         last: [0; 4],
         generation: old.generation,
         tcda: 0,
@@ -91,7 +91,7 @@ fn cleared(r: Record) -> Record
         caps,
         identity,
         host,
-        ctrl,
+        controller,
     }
 }
 
@@ -107,7 +107,7 @@ fn reason_of(reason: &[u8]) -> [u8; 128]
     ensures { λ x. ⌜ x ≡ putAt (zeros 128) 0 (now (reason .entry)) ⌝ }
 {
     let mut out = [0u8; 128];
-    parts::put(reason, &mut out, 0);
+    copies::put(reason, &mut out, 0);
     out
 }
 
@@ -117,7 +117,7 @@ fn keep(bytes: &[u8], blocks: u32, store: &mut [u8])
     ensures { λ _. ⌜ now (store .exit) ≡ putAt (now (store .entry)) 0 (take (512 * blocks) (now (bytes .entry))) ⌝ }
 {
     let end = pages::in_bytes(blocks);
-    parts::put(&bytes[0..end], store, 0);
+    copies::put(&bytes[0..end], store, 0);
 }
 
 // The page's bytes that the command asks for go to the front of the buffer.
@@ -138,24 +138,24 @@ fn send(page: u8, r: Record, store: &[u8], c: Command, buf: &mut [u8])
 }
 
 fn refused(answer: u8, page: u8, r: Record) -> Answered
-    ensures { λ x. ⌜ x ≡ record { answer = answer; class = classFor answer page; drive = r } ⌝ }
+    ensures { λ x. ⌜ x ≡ record { answer = answer; class = classFor answer page; own = r } ⌝ }
 {
-    let class = basics::pick_u8(answer == answers::INVALID_LOG_PAGE, classes::class(page), 0);
+    let class = choices::pick_u8(answer == answers::INVALID_LOG_PAGE, classes::class(page), 0);
     Answered {
         answer,
         class,
-        drive: r,
+        own: r,
     }
 }
 
 // An answer that comes with no class.
 fn plain(answer: u8, r: Record) -> Answered
-    ensures { λ x. ⌜ x ≡ record { answer = answer; class = 0; drive = r } ⌝ }
+    ensures { λ x. ⌜ x ≡ record { answer = answer; class = 0; own = r } ⌝ }
 {
     Answered {
         answer,
         class: 0,
-        drive: r,
+        own: r,
     }
 }
 
@@ -164,20 +164,20 @@ fn plain(answer: u8, r: Record) -> Answered
 pub fn command(
     r: Record,
     host: &mut [u8],
-    ctrl: &[u8],
+    controller: &[u8],
     a: [u32; 4],
     bytes: &[u8],
     reason: &[u8],
     words: Words,
     buf: &mut [u8],
 ) -> Answered
-    ensures { λ x. ⌜ outcome (x .answer) (x .class) (world (x .drive) (now (host .exit)) (now (ctrl .entry))) (now (buf .exit)) ≡ commandOf (world r (now (host .entry)) (now (ctrl .entry))) (candidate a (now (bytes .entry)) (now (reason .entry))) words (now (buf .entry)) ⌝ }
+    ensures { λ x. ⌜ outcome (x .answer) (x .class) (world (x .own) (now (host .exit)) (now (controller .entry))) (now (buf .exit)) ≡ commandOf (world r (now (host .entry)) (now (controller .entry))) (candidateOf a (now (bytes .entry)) (now (reason .entry))) words (now (buf .entry)) ⌝ }
 {
     let caps = r.caps;
-    let c = words::read(caps.ext, words);
+    let c = words::read(caps.extended, words);
     let lent = Lent {
         host: host.len(),
-        ctrl: ctrl.len(),
+        controller: controller.len(),
         bytes: bytes.len(),
         reason: reason.len(),
         buf: buf.len(),
@@ -197,7 +197,7 @@ pub fn command(
         send(pages::HOST, r, &host[..], c, buf);
         return plain(answer, r);
     }
-    send(pages::CTRL, r, ctrl, c, buf);
+    send(pages::CONTROLLER, r, controller, c, buf);
     plain(answer, pick_record(c.rae, r, cleared(r)))
 }
 
@@ -205,17 +205,17 @@ pub fn command(
 pub fn capture(
     r: Record,
     host: &[u8],
-    ctrl: &mut [u8],
+    controller: &mut [u8],
     a: [u32; 4],
     bytes: &[u8],
     reason: &[u8],
 ) -> Answered
-    ensures { λ x. ⌜ outcome (x .answer) (x .class) (world (x .drive) (now (host .entry)) (now (ctrl .exit))) [] ≡ captureOf (world r (now (host .entry)) (now (ctrl .entry))) (candidate a (now (bytes .entry)) (now (reason .entry))) ⌝ }
+    ensures { λ x. ⌜ outcome (x .answer) (x .class) (world (x .own) (now (host .entry)) (now (controller .exit))) [] ≡ captureOf (world r (now (host .entry)) (now (controller .entry))) (candidateOf a (now (bytes .entry)) (now (reason .entry))) ⌝ }
 {
     let caps = r.caps;
     let lent = Lent {
         host: host.len(),
-        ctrl: ctrl.len(),
+        controller: controller.len(),
         bytes: bytes.len(),
         reason: reason.len(),
         buf: 0,
@@ -224,9 +224,9 @@ pub fn capture(
     if answer != answers::SUCCESS {
         return plain(answer, r);
     }
-    keep(bytes, pages::last_of(pages::top(caps, 0), a), ctrl);
+    keep(bytes, pages::last_of(pages::top(caps, 0), a), controller);
     plain(
         answer,
-        ctrl_taken(r, pages::trim(caps, 0, a), reason_of(reason)),
+        controller_taken(r, pages::trim(caps, 0, a), reason_of(reason)),
     )
 }

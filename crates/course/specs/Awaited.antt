@@ -8,8 +8,8 @@ use mathlib.Core.Bool.{Bool, true, false, _&&_, _||_}
 use native.Mathlib.Omega.{arith}
 use lib.Dec.{leb, eqb}
 use borrow.Author.Tests.{le-leb}
-use Rattle.basics.specs.Choice.{pick}
-use Rattle.basics.specs.Tests.{holds, each, and-left, and-right, clash}
+use Rattle.choices.specs.Choice.{pick}
+use Rattle.choices.specs.Tests.{holds, each, and-left, and-right, clash}
 use Rattle.answers.specs.Answers.{success}
 use Rattle.pages.specs.Pages.{most4}
 use Rattle.words.specs.declared.Command.{Command}

@@ -7,11 +7,11 @@ use mathlib.Core.List.{List, [], _∷_}
 use mathlib.Core.Bool.{Bool, true, false, not, _&&_}
 use lib.ListN.{length, getD}
 use lib.Dec.{leb, eqb}
-use Rattle.basics.specs.Choice.{pick, firstThat, smaller}
-use Rattle.basics.specs.Tests.{holds}
-use Rattle.parts.specs.Parts.{zeros}
+use Rattle.choices.specs.Choice.{pick, firstThat, smaller}
+use Rattle.choices.specs.Tests.{holds}
+use Rattle.copies.specs.Parts.{zeros}
 use Rattle.answers.specs.Answers.{success, noArea4, badHeader, noRoom, attemptsUsedUp, withdrawn, nothing, brokeItsWord, badSetup, alreadyEnded}
-use Rattle.pages.specs.Pages.{hostPage, ctrlPage, telemetryPage, block, lastOf, area4}
+use Rattle.pages.specs.Pages.{hostPage, controllerPage, telemetryPage, block, lastOf, area4}
 use Rattle.words.specs.Words.{mostBlocks, noWords, builtOf}
 use Rattle.words.specs.declared.Words.{Words}
 use Rattle.words.specs.declared.Built.{Built}
@@ -40,8 +40,8 @@ planTests p =
     ∷ (leb 1 (p .chunk) && leb (p .chunk) mostBlocks)
     ∷ (leb 1 (p .attempts) && leb (p .attempts) mostAttempts)
     ∷ (leb (p .room) mostRoom && eqb (p .room % block) 0)
-    ∷ (p .caps .ext && p .caps .tel)
-    ∷ not (p .create && eqb (p .page) ctrlPage)
+    ∷ (p .caps .extended && p .caps .telemetry)
+    ∷ not (p .create && eqb (p .page) controllerPage)
     ∷ []
 
 -- area 4 is wanted without DA4S and ETDAS
@@ -165,7 +165,7 @@ lookBy Ended p d = noSeen
 
 -- an 08h header that shows no data
 abbrev pub showsNone : Plan → Seen → Bool
-showsNone p h = eqb (p .page) ctrlPage && eqb (h .tcda) 0
+showsNone p h = eqb (p .page) controllerPage && eqb (h .tcda) 0
 
 -- a first header: 12, 7, 11, 8, or else it opens the attempt
 unfoldable pub firstJudge : Plan → Bool → Seen → Move
@@ -180,7 +180,7 @@ firstJudge p ok h =
 
 -- the copy stands: 08h is to be acknowledged, 07h is done
 abbrev pub stands : Plan → Move
-stands p = pick (eqb (p .page) ctrlPage) Acknowledge (Done false)
+stands p = pick (eqb (p .page) controllerPage) Acknowledge (Done false)
 
 -- a mismatch in an attempt: 9, 8, or else the header opens the next attempt
 unfoldable pub mismatchJudge : Plan → ℕ → Seen → Move

@@ -7,8 +7,8 @@ use mathlib.Core.Bool.{Bool, true, false, not}
 use native.Mathlib.Omega.{arith}
 use lib.Dec.{leb, eqb}
 use borrow.Author.Tests.{leb-true, le-leb, lt-leb}
-use Rattle.basics.specs.Choice.{pick-cases, smaller-left, smaller-right, firstThat}
-use Rattle.basics.specs.Tests.{holds, each, and-left, and-right}
+use Rattle.choices.specs.Choice.{pick-cases, smaller-left, smaller-right, firstThat}
+use Rattle.choices.specs.Tests.{holds, each, and-left, and-right}
 use Rattle.answers.specs.Answers.{success, noArea4, badSetup}
 use Rattle.pages.specs.Pages.{block, most4}
 use Rattle.words.specs.Words.{mostBlocks}

@@ -1,15 +1,15 @@
 // The course of a collection, without its state: what setup takes, which command each phase awaits and how long its data is, what is seen
 // of a header, and what a completion calls for.
 //
-// It rests on basics, answers, pages, words and header. It promises that each answer is that of specs/Course.antt for any plan, any phase
+// It rests on choices, answers, pages, words and header. It promises that each answer is that of specs/Course.antt for any plan, any phase
 // and any data, and that the awaited command of a plan that setup takes is never a builder's refusal (specs/Awaited.antt).
 use pages::Caps;
 use words::Words;
 ghost use mathlib.Core.Path.{_≡_};
 ghost use mathlib.Core.Bool.{true, false};
 ghost use Prim.Native.Nat.{_+_};
-ghost use Rattle.basics.specs.Choice.{pick};
-ghost use Rattle.basics.specs.Tests.{holds};
+ghost use Rattle.choices.specs.Choice.{pick};
+ghost use Rattle.choices.specs.Tests.{holds};
 ghost use Rattle.words.specs.Words.{noWords, builtOf};
 ghost use Rattle.course.specs.Course.{planTests, setupAnswer, areaLast, areaBytes, fitsRoom, chunkBlocks, blocksBy, expectedBy, mcdaOf, awaitedBy, insideBy, withinBy, phaseAt, openingOf, followingOf, generationOf, seenOf, noSeen, lookBy, showsNone, firstJudge, stands, mismatchJudge, laterJudge, chunkJudge, ackJudge, judgeBy};
 
@@ -69,13 +69,13 @@ fn plan_ok(p: Plan) -> bool
     ensures { λ r. ⌜ r ≡ holds (planTests p) ⌝ }
 {
     let caps = p.caps;
-    ((p.page == pages::HOST) | (p.page == pages::CTRL))
+    ((p.page == pages::HOST) | (p.page == pages::CONTROLLER))
         & ((1 <= p.area) & (p.area <= 4))
         & ((1 <= p.chunk) & (p.chunk <= words::MOST_BLOCKS))
         & ((1 <= p.attempts) & (p.attempts <= MOST_ATTEMPTS))
         & ((p.room <= MOST_ROOM) & (p.room % pages::BLOCK == 0))
-        & (caps.ext & caps.tel)
-        & !(p.create & (p.page == pages::CTRL))
+        & (caps.extended & caps.telemetry)
+        & !(p.create & (p.page == pages::CONTROLLER))
 }
 
 // Setup's answer to a plan: 13, then 6, or 0.
@@ -84,8 +84,8 @@ pub fn setup_answer(p: Plan) -> u8
 {
     let caps = p.caps;
     let four = (p.area == 4) & !(caps.da4s & caps.etdas);
-    let lacks = basics::pick_u8(four, answers::NO_AREA_4, answers::SUCCESS);
-    basics::pick_u8(!plan_ok(p), answers::BAD_SETUP, lacks)
+    let lacks = choices::pick_u8(four, answers::NO_AREA_4, answers::SUCCESS);
+    choices::pick_u8(!plan_ok(p), answers::BAD_SETUP, lacks)
 }
 
 // B, the wanted area's last block.
@@ -146,7 +146,7 @@ fn mcda(p: Plan) -> u8
     ensures { λ r. ⌜ r ≡ mcdaOf p ⌝ }
 {
     let caps = p.caps;
-    basics::pick_u8(p.create & caps.mcdas, p.area, 0)
+    choices::pick_u8(p.create & caps.mcdas, p.area, 0)
 }
 
 fn first_words(p: Plan) -> Words
@@ -246,7 +246,7 @@ fn own_generation(page: u8, data: &[u8]) -> u8
     if data.len() != pages::BLOCK {
         return 0;
     }
-    basics::pick_u8(page == pages::HOST, data[381], data[383])
+    choices::pick_u8(page == pages::HOST, data[381], data[383])
 }
 
 fn seen_of(p: Plan, data: &[u8]) -> Seen
@@ -298,7 +298,7 @@ fn pick_move(t: bool, m: Move, n: Move) -> Move
 fn shows_none(p: Plan, h: Seen) -> bool
     ensures { λ r. ⌜ r ≡ showsNone p h ⌝ }
 {
-    (p.page == pages::CTRL) & (h.tcda == 0)
+    (p.page == pages::CONTROLLER) & (h.tcda == 0)
 }
 
 // 12, 7, 11, 8, or else the header opens the attempt.
@@ -319,7 +319,11 @@ fn judge_first(p: Plan, ok: bool, h: Seen) -> Move
 fn stand(p: Plan) -> Move
     ensures { λ r. ⌜ r ≡ stands p ⌝ }
 {
-    pick_move(p.page == pages::CTRL, Move::Acknowledge, Move::Done(false))
+    pick_move(
+        p.page == pages::CONTROLLER,
+        Move::Acknowledge,
+        Move::Done(false),
+    )
 }
 
 // 9, 8, or else the header opens the next attempt.

@@ -9,9 +9,9 @@ use lib.ListN.{length, getD, take}
 use lib.Seq.{take-all}
 use lib.Dec.{eqb}
 use borrow.Author.Tests.{eq-eqb, ne-eqb}
-use Rattle.basics.specs.Choice.{pick}
-use Rattle.basics.specs.Numbers.{value-back}
-use Rattle.basics.specs.Tests.{each}
+use Rattle.choices.specs.Choice.{pick}
+use Rattle.choices.specs.Numbers.{value-back}
+use Rattle.choices.specs.Tests.{each}
 use Rattle.pages.specs.Pages.{hostPage, block}
 use Rattle.pages.specs.Trimmed.{LastRule, last-rule}
 use Rattle.answers.specs.Answers.{success}
@@ -45,7 +45,7 @@ check-long page da4s h f ok l e q =
 pub record Carried (f : Fields) : Type 0 where
   pub oui : f .oui < 16777216
   pub four : length (f .last) ≡ 4
-  pub host : eqb (f .page) hostPage ≡ false → f .hostgen ≡ 0
+  pub host : eqb (f .page) hostPage ≡ false → f .hostgeneration ≡ 0
   pub reason : length (f .reason) ≡ 128
 
 four-of : (l : List ℕ) → length l ≡ 4 → getD l 0 0 ∷ getD l 1 0 ∷ getD l 2 0 ∷ getD l 3 0 ∷ [] ≡ l
@@ -73,9 +73,9 @@ last-back f da4s e r =
     let a4 = value-back 4 (getD (f .last) 3 0) (omega arith) in
     simp (a1, a2, a3, a4) (four-of (f .last) e)
 
-same-fields : (f : Fields) {oui scope hostgen : ℕ} {last reason : List ℕ}
-    → oui ≡ f .oui → last ≡ f .last → scope ≡ f .scope → hostgen ≡ f .hostgen → reason ≡ f .reason
-    → record { page = f .page; oui = oui; last = last; scope = scope; hostgen = hostgen; tcda = f .tcda; ctrlgen = f .ctrlgen; reason = reason } ≡ f
+same-fields : (f : Fields) {oui scope hostgeneration : ℕ} {last reason : List ℕ}
+    → oui ≡ f .oui → last ≡ f .last → scope ≡ f .scope → hostgeneration ≡ f .hostgeneration → reason ≡ f .reason
+    → record { page = f .page; oui = oui; last = last; scope = scope; hostgeneration = hostgeneration; tcda = f .tcda; controllergeneration = f .controllergeneration; reason = reason } ≡ f
 same-fields f o l s h r = rw (o, l, s, h, r)
 
 fields-back : (f : Fields) (da4s : Bool) → Carried f → LastRule da4s (f .last) → fieldsOf (f .page) (headerOf f) ≡ f
@@ -84,8 +84,8 @@ fields-back f da4s w r =
     same-fields f
     (value-back 3 (f .oui) (w .oui))
     (last-back f da4s (w .four) r)
-    (scope-back (eqb (f .page) hostPage) (f .scope) (f .hostgen))
-    (host-back (eqb (f .page) hostPage) (f .scope) (f .hostgen) (w .host))
+    (scope-back (eqb (f .page) hostPage) (f .scope) (f .hostgeneration))
+    (host-back (eqb (f .page) hostPage) (f .scope) (f .hostgeneration) (w .host))
     (take-all 128 (f .reason) (omega (arith, w .reason)))
 
 pub header-length : (f : Fields) → length (f .reason) ≡ 128 → length (headerOf f) ≡ block

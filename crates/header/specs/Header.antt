@@ -6,10 +6,10 @@ use mathlib.Core.List.{List, [], _∷_, _++_}
 use mathlib.Core.Bool.{Bool, _&&_, _||_}
 use lib.ListN.{length, getD, take, drop}
 use lib.Dec.{ltb, leb, eqb}
-use Rattle.basics.specs.Choice.{pick}
-use Rattle.basics.specs.Numbers.{bytesOf, valueAt}
-use Rattle.basics.specs.Tests.{holds}
-use Rattle.parts.specs.Parts.{zeros}
+use Rattle.choices.specs.Choice.{pick}
+use Rattle.choices.specs.Numbers.{bytesOf, valueAt}
+use Rattle.choices.specs.Tests.{holds}
+use Rattle.copies.specs.Parts.{zeros}
 use Rattle.pages.specs.Pages.{hostPage, telemetryPage, block, lastOk}
 use Rattle.answers.specs.Answers.{success, badHeader}
 use Rattle.header.specs.declared.Fields.{Fields}
@@ -31,9 +31,9 @@ low page oui last =
 abbrev pub marks : Fields → List ℕ
 marks f =
     pick (eqb (f .page) hostPage) (f .scope) 0
-    ∷ pick (eqb (f .page) hostPage) (f .hostgen) (f .scope)
+    ∷ pick (eqb (f .page) hostPage) (f .hostgeneration) (f .scope)
     ∷ f .tcda
-    ∷ f .ctrlgen
+    ∷ f .controllergeneration
     ∷ []
 
 -- the header's 512 bytes; the reason is 511:384
@@ -57,9 +57,9 @@ fieldsOf page h = record {
   oui = valueAt 3 5 h;
   last = lastAt h;
   scope = pick (eqb page hostPage) (getD h 380 0) (getD h 381 0);
-  hostgen = pick (eqb page hostPage) (getD h 381 0) 0;
+  hostgeneration = pick (eqb page hostPage) (getD h 381 0) 0;
   tcda = getD h 382 0;
-  ctrlgen = getD h 383 0;
+  controllergeneration = getD h 383 0;
   reason = take 128 (drop 384 h);
 }
 
@@ -79,7 +79,7 @@ fieldsOk page da4s f =
 abbrev pub noFields : Checked
 noFields = record {
   answer = badHeader;
-  fields = record { page = 0; oui = 0; last = zeros 4; scope = 0; hostgen = 0; tcda = 0; ctrlgen = 0; reason = zeros 128 };
+  fields = record { page = 0; oui = 0; last = zeros 4; scope = 0; hostgeneration = 0; tcda = 0; controllergeneration = 0; reason = zeros 128 };
 }
 
 -- the check: the fields, or bad where the length is not 512 or the fields are a bad header's

@@ -1,25 +1,25 @@
 // The 512-byte header of the pages 07h and 08h: written from its fields, and checked and read by the host.
 //
-// It rests on basics, parts, answers and pages. It promises that the bytes written and the answer of the check are those of specs/Header.antt,
+// It rests on choices, copies, answers and pages. It promises that the bytes written and the answer of the check are those of specs/Header.antt,
 // and that a header written from fields that agree is checked to exactly those fields (specs/Back.antt).
 ghost use mathlib.Core.Path.{_≡_};
 ghost use mathlib.Core.List.{_++_};
 ghost use Prim.Native.Nat.{_+_, _*_};
 ghost use lib.ListN.{length, take, drop};
-ghost use Rattle.basics.specs.Choice.{pick};
+ghost use Rattle.choices.specs.Choice.{pick};
 ghost use Rattle.answers.specs.Answers.{success};
 ghost use Rattle.header.specs.Header.{front, marks, headerOf, lastAt, fieldsOf, fieldsOk, noFields, checkOf};
 
-// What a header says. `hostgen` is the host generation, which an 08h header does not have: 0 there. `ctrlgen` is the controller
+// What a header says. `hostgeneration` is the host generation, which an 08h header does not have: 0 there. `controllergeneration` is the controller
 // generation.
 pub struct Fields {
     pub page: u8,
     pub oui: u32,
     pub last: [u32; 4],
     pub scope: u8,
-    pub hostgen: u8,
+    pub hostgeneration: u8,
     pub tcda: u8,
-    pub ctrlgen: u8,
+    pub controllergeneration: u8,
     pub reason: [u8; 128],
 }
 
@@ -34,9 +34,9 @@ fn marks_of(f: Fields) -> [u8; 4]
     ensures { λ r. ⌜ r ≡ marks f ⌝ }
 {
     let host = f.page == pages::HOST;
-    let first = basics::pick_u8(host, f.scope, 0);
-    let second = basics::pick_u8(host, f.hostgen, f.scope);
-    [first, second, f.tcda, f.ctrlgen]
+    let first = choices::pick_u8(host, f.scope, 0);
+    let second = choices::pick_u8(host, f.hostgeneration, f.scope);
+    [first, second, f.tcda, f.controllergeneration]
 }
 
 // The header with zeros for its reason, `m` being bytes 380 to 383.
@@ -70,7 +70,7 @@ fn put_reason(h: [u8; 512], reason: [u8; 128]) -> [u8; 512]
     ensures { λ r. ⌜ r ≡ take 384 h ++ reason ⌝ }
 {
     let mut out = h;
-    parts::put(&reason, &mut out, 384);
+    copies::put(&reason, &mut out, 384);
     out
 }
 
@@ -117,7 +117,7 @@ fn reason_at(h: &[u8]) -> [u8; 128]
     ensures { λ r. ⌜ r ≡ take 128 (drop 384 (now (h .entry))) ⌝ }
 {
     let mut reason = [0u8; 128];
-    parts::put(&h[384..512], &mut reason, 0);
+    copies::put(&h[384..512], &mut reason, 0);
     reason
 }
 
@@ -132,10 +132,10 @@ fn fields_of(page: u8, h: &[u8]) -> Fields
         page: h[0],
         oui: of3(h[5], h[6], h[7]),
         last,
-        scope: basics::pick_u8(host, h[380], h[381]),
-        hostgen: basics::pick_u8(host, h[381], 0),
+        scope: choices::pick_u8(host, h[380], h[381]),
+        hostgeneration: choices::pick_u8(host, h[381], 0),
         tcda: h[382],
-        ctrlgen: h[383],
+        controllergeneration: h[383],
         reason,
     }
 }
@@ -145,7 +145,7 @@ fn fields_ok(page: u8, da4s: bool, f: Fields) -> bool
 {
     let last = f.last;
     let a3 = last[2];
-    (((page == pages::HOST) | (page == pages::CTRL)) & (f.page == page))
+    (((page == pages::HOST) | (page == pages::CONTROLLER)) & (f.page == page))
         & pages::last_ok(da4s, last)
         & (f.scope <= 2)
         & (f.tcda <= 1)
@@ -162,9 +162,9 @@ fn no_fields() -> Checked
             oui: 0,
             last: [0; 4],
             scope: 0,
-            hostgen: 0,
+            hostgeneration: 0,
             tcda: 0,
-            ctrlgen: 0,
+            controllergeneration: 0,
             reason: [0; 128],
         },
     }

@@ -10,9 +10,9 @@ use lib.ListN.{length, getD, take, drop, length-append, length-drop, take-append
 use lib.Seq.{take-all, drop-cons, drop-drop, take-at, drop-at}
 use lib.Dec.{leb, eqb}
 use borrow.Author.Tests.{le-leb, leb-true, eqb-true, eqb-false}
-use Rattle.basics.specs.Choice.{pick}
-use Rattle.basics.specs.Numbers.{bits, bytesOf, valueOf, valueAt, value-back}
-use Rattle.basics.specs.Tests.{holds, each, by-test}
+use Rattle.choices.specs.Choice.{pick}
+use Rattle.choices.specs.Numbers.{bits, bytesOf, valueOf, valueAt, value-back}
+use Rattle.choices.specs.Tests.{holds, each, by-test}
 use Rattle.pages.specs.declared.Caps.{Caps}
 use Rattle.records.specs.declared.Record.{Record}
 use Rattle.course.specs.declared.Phase.{Phase}
@@ -40,18 +40,18 @@ one-back false = refl
 
 -- five bits as a sum
 record FiveBits (c : Caps) : Type 0 where
-  sum : capsByte c ≡ one (c .ext) + 2 * one (c .tel) + 4 * one (c .da4s) + 8 * one (c .etdas) + 16 * one (c .mcdas)
-  ext : one (c .ext) ≤ 1
-  tel : one (c .tel) ≤ 1
+  sum : capsByte c ≡ one (c .extended) + 2 * one (c .telemetry) + 4 * one (c .da4s) + 8 * one (c .etdas) + 16 * one (c .mcdas)
+  extended : one (c .extended) ≤ 1
+  telemetry : one (c .telemetry) ≤ 1
   da4s : one (c .da4s) ≤ 1
   etdas : one (c .etdas) ≤ 1
   mcdas : one (c .mcdas) ≤ 1
 
 five-bits : (c : Caps) → FiveBits c
 five-bits c = record {
-  sum = rw (one-times 2 (c .tel), one-times 4 (c .da4s), one-times 8 (c .etdas), one-times 16 (c .mcdas));
-  ext = one-most (c .ext);
-  tel = one-most (c .tel);
+  sum = rw (one-times 2 (c .telemetry), one-times 4 (c .da4s), one-times 8 (c .etdas), one-times 16 (c .mcdas));
+  extended = one-most (c .extended);
+  telemetry = one-most (c .telemetry);
   da4s = one-most (c .da4s);
   etdas = one-most (c .etdas);
   mcdas = one-most (c .mcdas);
@@ -68,8 +68,8 @@ unfolding capsOf
 caps-back c =
     let f = five-bits c in
     rw (
-      cap-back c 0 (c .ext) (omega arith),
-      cap-back c 1 (c .tel) (omega arith),
+      cap-back c 0 (c .extended) (omega arith),
+      cap-back c 1 (c .telemetry) (omega arith),
       cap-back c 2 (c .da4s) (omega arith),
       cap-back c 3 (c .etdas) (omega arith),
       cap-back c 4 (c .mcdas) (omega arith),
@@ -111,28 +111,28 @@ last-back a f =
 pub record RecordTyped (r : Record) : Type 0 where
   pub oui : r .identity .oui < 256 ^ 4
   pub host-last : Four (r .host .last)
-  pub ctrl-last : Four (r .ctrl .last)
+  pub controller-last : Four (r .controller .last)
   pub host-reason : length (r .host .reason) ≡ 128
-  pub ctrl-reason : length (r .ctrl .reason) ≡ 128
+  pub controller-reason : length (r .controller .reason) ≡ 128
 
 -- a written record is sound
 pub record-sound : (r : Record) → recordSound (recordBytes r) ≡ true
 unfolding recordSound recordBytes holds
-record-sound r = rw (caps-most (r .caps), le-leb (one (r .ctrl .notice)) 1 (one-most (r .ctrl .notice)))
+record-sound r = rw (caps-most (r .caps), le-leb (one (r .controller .notice)) 1 (one-most (r .controller .notice)))
 
 host-reason-back : (f h k : List ℕ) → length f ≡ 44 → length h ≡ 128 → reasonAt 44 (f ++ h ++ k) ≡ h
 host-reason-back f h k lf lh = rw (append-assoc f h k, drop-at f (h ++ k) 44 lf, take-at h k 128 lh)
 
-ctrl-reason-back : (f h k : List ℕ) → length f ≡ 44 → length h ≡ 128 → length k ≡ 128 → reasonAt 172 (f ++ h ++ k) ≡ k
-ctrl-reason-back f h k lf lh lk = rw (drop-at (f ++ h) k 172 (simp length-append (omega arith))) (take-all 128 k (omega arith))
+controller-reason-back : (f h k : List ℕ) → length f ≡ 44 → length h ≡ 128 → length k ≡ 128 → reasonAt 172 (f ++ h ++ k) ≡ k
+controller-reason-back f h k lf lh lk = rw (drop-at (f ++ h) k 172 (simp length-append (omega arith))) (take-all 128 k (omega arith))
 
 same-record : (r : Record) {caps : Caps} {oui : ℕ} {notice : Bool} {hl hr kl kr : List ℕ} → caps ≡ r .caps → oui ≡ r .identity .oui
-    → hl ≡ r .host .last → hr ≡ r .host .reason → kl ≡ r .ctrl .last → kr ≡ r .ctrl .reason → notice ≡ r .ctrl .notice
+    → hl ≡ r .host .last → hr ≡ r .host .reason → kl ≡ r .controller .last → kr ≡ r .controller .reason → notice ≡ r .controller .notice
     → record {
       caps = caps;
-      identity = record { oui = oui; hostscope = r .identity .hostscope; ctrlscope = r .identity .ctrlscope };
+      identity = record { oui = oui; hostscope = r .identity .hostscope; controllerscope = r .identity .controllerscope };
       host = record { last = hl; generation = r .host .generation; reason = hr };
-      ctrl = record { last = kl; generation = r .ctrl .generation; tcda = r .ctrl .tcda; notice = notice; reason = kr };
+      controller = record { last = kl; generation = r .controller .generation; tcda = r .controller .tcda; notice = notice; reason = kr };
     }
     ≡ r
 same-record r c o hl hr kl kr n = rw (c, o, hl, hr, kl, kr, n)
@@ -141,14 +141,14 @@ same-record r c o hl hr kl kr n = rw (c, o, hl, hr, kl, kr, n)
 pub record-back : (r : Record) → RecordTyped r → recordAt (recordBytes r) ≡ r
 unfolding recordAt recordBytes
 record-back r t =
-    let f = recordFront (recordMarks r) (r .identity .oui) (r .host .last) (r .ctrl .last) in
+    let f = recordFront (recordMarks r) (r .identity .oui) (r .host .last) (r .controller .last) in
     same-record r (caps-back (r .caps))
     (value-back 4 (r .identity .oui) (t .oui))
     (last-back (r .host .last) (t .host-last))
-    (host-reason-back f (r .host .reason) (r .ctrl .reason) refl (t .host-reason))
-    (last-back (r .ctrl .last) (t .ctrl-last))
-    (ctrl-reason-back f (r .host .reason) (r .ctrl .reason) refl (t .host-reason) (t .ctrl-reason))
-    (one-back (r .ctrl .notice))
+    (host-reason-back f (r .host .reason) (r .controller .reason) refl (t .host-reason))
+    (last-back (r .controller .last) (t .controller-last))
+    (controller-reason-back f (r .host .reason) (r .controller .reason) refl (t .host-reason) (t .controller-reason))
+    (one-back (r .controller .notice))
 
 -- ---- a state
 
@@ -305,9 +305,9 @@ record-bytes-back b l t s =
     (sym (eqb-true (getD b 7 0) 0 (each _ s 2)))
     in
     let host = join (bytes-kept 4 12 b t) (bytes-kept 4 16 b t) (bytes-kept 4 20 b t) (bytes-kept 4 24 b t) in
-    let ctrl = join (bytes-kept 4 28 b t) (bytes-kept 4 32 b t) (bytes-kept 4 36 b t) (bytes-kept 4 40 b t) in
+    let controller = join (bytes-kept 4 28 b t) (bytes-kept 4 32 b t) (bytes-kept 4 36 b t) (bytes-kept 4 40 b t) in
     ap (λ (f : List ℕ). f ++ reasonAt 44 b ++ reasonAt 172 b)
-    (join marks (bytes-kept 4 8 b t) host ctrl ∙ run-is 44 0 b (omega arith))
+    (join marks (bytes-kept 4 8 b t) host controller ∙ run-is 44 0 b (omega arith))
     ∙ parts-all 44 128 b (omega arith)
 
 -- what holds of each phase's number holds of a number of at most 5

@@ -6,15 +6,15 @@ use mathlib.Core.List.{List, [], _∷_, _++_}
 use mathlib.Core.Bool.{Bool, _&&_, _||_}
 use lib.ListN.{getD, take, drop}
 use lib.Dec.{leb, eqb}
-use Rattle.basics.specs.Choice.{pick}
-use Rattle.basics.specs.Numbers.{bits, bytesOf, valueAt}
-use Rattle.basics.specs.Tests.{holds}
+use Rattle.choices.specs.Choice.{pick}
+use Rattle.choices.specs.Numbers.{bits, bytesOf, valueAt}
+use Rattle.choices.specs.Tests.{holds}
 use Rattle.pages.specs.declared.Caps.{Caps}
 use Rattle.words.specs.declared.Words.{Words}
 use Rattle.words.specs.Words.{noWords}
 use Rattle.header.specs.declared.Fields.{Fields}
 use Rattle.records.specs.declared.HostPage.{HostPage}
-use Rattle.records.specs.declared.CtrlPage.{CtrlPage}
+use Rattle.records.specs.declared.ControllerPage.{ControllerPage}
 use Rattle.records.specs.declared.Record.{Record}
 use Rattle.course.specs.declared.Plan.{Plan}
 use Rattle.course.specs.declared.Phase.{Phase}
@@ -31,7 +31,7 @@ mostCaps = 31
 
 -- capabilities as a byte
 abbrev pub capsByte : Caps → ℕ
-capsByte c = pick (c .ext) 1 0 + pick (c .tel) 2 0 + pick (c .da4s) 4 0 + pick (c .etdas) 8 0 + pick (c .mcdas) 16 0
+capsByte c = pick (c .extended) 1 0 + pick (c .telemetry) 2 0 + pick (c .da4s) 4 0 + pick (c .etdas) 8 0 + pick (c .mcdas) 16 0
 
 -- bit i of a byte of capabilities; a damaged byte has none
 abbrev pub capBit : ℕ → ℕ → Bool
@@ -39,7 +39,7 @@ capBit i b = leb b mostCaps && eqb (bits i i b) 1
 
 -- the capabilities that a byte says
 unfoldable pub capsOf : ℕ → Caps
-capsOf b = record { ext = capBit 0 b; tel = capBit 1 b; da4s = capBit 2 b; etdas = capBit 3 b; mcdas = capBit 4 b }
+capsOf b = record { extended = capBit 0 b; telemetry = capBit 1 b; da4s = capBit 2 b; etdas = capBit 3 b; mcdas = capBit 4 b }
 
 -- four last blocks as 16 bytes
 abbrev pub lastBytes : List ℕ → List ℕ
@@ -60,44 +60,44 @@ abbrev pub recordMarks : Record → List ℕ
 recordMarks r =
     capsByte (r .caps)
     ∷ r .identity .hostscope
-    ∷ r .identity .ctrlscope
+    ∷ r .identity .controllerscope
     ∷ r .host .generation
-    ∷ r .ctrl .generation
-    ∷ r .ctrl .tcda
-    ∷ pick (r .ctrl .notice) 1 0
+    ∷ r .controller .generation
+    ∷ r .controller .tcda
+    ∷ pick (r .controller .notice) 1 0
     ∷ 0
     ∷ []
 
 -- what stands before the reasons
 abbrev pub recordFront : List ℕ → ℕ → List ℕ → List ℕ → List ℕ
-recordFront marks oui hostLast ctrlLast =
+recordFront marks oui hostLast controllerLast =
     marks
     ++ bytesOf 4 oui  -- 8
     ++ lastBytes hostLast  -- 12
-    ++ lastBytes ctrlLast  -- 28
+    ++ lastBytes controllerLast  -- 28
 
 -- a record's 300 bytes
 unfoldable pub recordBytes : Record → List ℕ
 recordBytes r =
-    recordFront (recordMarks r) (r .identity .oui) (r .host .last) (r .ctrl .last)
+    recordFront (recordMarks r) (r .identity .oui) (r .host .last) (r .controller .last)
     ++ r .host .reason  -- 44
-    ++ r .ctrl .reason  -- 172
+    ++ r .controller .reason  -- 172
 
 -- page 07h in a record's bytes
 abbrev pub hostAt : List ℕ → HostPage
 hostAt b = record { last = lastAt 12 b; generation = getD b 3 0; reason = reasonAt 44 b }
 
 -- page 08h in a record's bytes
-abbrev pub ctrlAt : List ℕ → CtrlPage
-ctrlAt b = record { last = lastAt 28 b; generation = getD b 4 0; tcda = getD b 5 0; notice = eqb (getD b 6 0) 1; reason = reasonAt 172 b }
+abbrev pub controllerAt : List ℕ → ControllerPage
+controllerAt b = record { last = lastAt 28 b; generation = getD b 4 0; tcda = getD b 5 0; notice = eqb (getD b 6 0) 1; reason = reasonAt 172 b }
 
 -- the record that the bytes say
 unfoldable pub recordAt : List ℕ → Record
 recordAt b = record {
   caps = capsOf (getD b 0 0);
-  identity = record { oui = valueAt 4 8 b; hostscope = getD b 1 0; ctrlscope = getD b 2 0 };
+  identity = record { oui = valueAt 4 8 b; hostscope = getD b 1 0; controllerscope = getD b 2 0 };
   host = hostAt b;
-  ctrl = ctrlAt b;
+  controller = controllerAt b;
 }
 
 -- a record that is not damaged: capabilities of five bits, a notice of 0 or 1, and the zero byte
@@ -224,7 +224,7 @@ nextBytes (Refused answer) = nextParts refusal answer 0 noWords 0
 -- what stands before the reason
 abbrev pub fieldsFront : Fields → List ℕ
 fieldsFront f =
-    (f .page ∷ f .scope ∷ f .hostgen ∷ f .tcda ∷ f .ctrlgen ∷ 0 ∷ 0 ∷ 0 ∷ [])
+    (f .page ∷ f .scope ∷ f .hostgeneration ∷ f .tcda ∷ f .controllergeneration ∷ 0 ∷ 0 ∷ 0 ∷ [])
     ++ bytesOf 4 (f .oui)  -- 8
     ++ lastBytes (f .last)  -- 12
 

@@ -6,8 +6,8 @@ use mathlib.Core.List.{List, _∷_, _++_}
 use native.Mathlib.Omega.{arith}
 use lib.ListN.{length, getD, drop, length-append, length-drop}
 use lib.Seq.{take-at}
-use Rattle.basics.specs.Numbers.{bytesOf}
-use Rattle.parts.specs.Parts.{zeros, putAt, put-end, put-next}
+use Rattle.choices.specs.Numbers.{bytesOf}
+use Rattle.copies.specs.Parts.{zeros, putAt, put-end, put-next}
 use Rattle.words.specs.declared.Words.{Words}
 use Rattle.header.specs.declared.Fields.{Fields}
 use Rattle.records.specs.declared.Record.{Record}
@@ -64,7 +64,7 @@ state-is s {r = r} {t = t} em es e1 e2 e3 e4 e5 e6 e7 e8 =
     e8
 
 fields-front : (f : Fields) {p q : List ℕ}
-    → p ≡ putAt (f .page ∷ f .scope ∷ f .hostgen ∷ f .tcda ∷ f .ctrlgen ∷ zeros 151) 8 (bytesOf 4 (f .oui))
+    → p ≡ putAt (f .page ∷ f .scope ∷ f .hostgeneration ∷ f .tcda ∷ f .controllergeneration ∷ zeros 151) 8 (bytesOf 4 (f .oui))
     → q ≡ putAt p 12 (lastBytes (f .last))
     → q ≡ fieldsFront f ++ zeros 128
 unfolding putAt
@@ -72,7 +72,7 @@ fields-front f e1 e2 = then 12 (lastBytes (f .last)) e1 e2
 
 -- a header's fields
 pub fields-is : (f : Fields) {p q r : List ℕ} → length (f .reason) ≡ 128
-    → p ≡ putAt (f .page ∷ f .scope ∷ f .hostgen ∷ f .tcda ∷ f .ctrlgen ∷ zeros 151) 8 (bytesOf 4 (f .oui))
+    → p ≡ putAt (f .page ∷ f .scope ∷ f .hostgeneration ∷ f .tcda ∷ f .controllergeneration ∷ zeros 151) 8 (bytesOf 4 (f .oui))
     → q ≡ putAt p 12 (lastBytes (f .last)) → r ≡ putAt q 28 (f .reason)
     → r ≡ fieldsBytes f
 unfolding fieldsBytes
@@ -83,11 +83,11 @@ fields-is f l e1 e2 e3 =
 
 record-front : (r : Record) {m o p q s : List ℕ}
     → m ≡ recordMarks r → o ≡ putAt (zeros 300) 0 m → p ≡ putAt o 8 (bytesOf 4 (r .identity .oui))
-    → q ≡ putAt p 12 (lastBytes (r .host .last)) → s ≡ putAt q 28 (lastBytes (r .ctrl .last))
-    → s ≡ recordFront (recordMarks r) (r .identity .oui) (r .host .last) (r .ctrl .last) ++ zeros 256
+    → q ≡ putAt p 12 (lastBytes (r .host .last)) → s ≡ putAt q 28 (lastBytes (r .controller .last))
+    → s ≡ recordFront (recordMarks r) (r .identity .oui) (r .host .last) (r .controller .last) ++ zeros 256
 unfolding putAt
 record-front r em e1 e2 e3 e4 =
-    then 28 (lastBytes (r .ctrl .last))
+    then 28 (lastBytes (r .controller .last))
     (then 12 (lastBytes (r .host .last))
     (then 8 (bytesOf 4 (r .identity .oui)) (e1 ∙ ap (λ (l : List ℕ). putAt (zeros 300) 0 l) em) e2)
     e3)
@@ -104,13 +104,13 @@ reasons-are f h k lf lh lk e1 e2 =
     ∙ ap (λ (x : List ℕ). x ++ k) (take-at (f ++ h) rest 172 (simp length-append (omega arith)))
 
 -- a record
-pub record-is : (r : Record) {m o p q s t u : List ℕ} → length (r .host .reason) ≡ 128 → length (r .ctrl .reason) ≡ 128
+pub record-is : (r : Record) {m o p q s t u : List ℕ} → length (r .host .reason) ≡ 128 → length (r .controller .reason) ≡ 128
     → m ≡ recordMarks r → o ≡ putAt (zeros 300) 0 m → p ≡ putAt o 8 (bytesOf 4 (r .identity .oui))
-    → q ≡ putAt p 12 (lastBytes (r .host .last)) → s ≡ putAt q 28 (lastBytes (r .ctrl .last))
-    → t ≡ putAt s 44 (r .host .reason) → u ≡ putAt t 172 (r .ctrl .reason)
+    → q ≡ putAt p 12 (lastBytes (r .host .last)) → s ≡ putAt q 28 (lastBytes (r .controller .last))
+    → t ≡ putAt s 44 (r .host .reason) → u ≡ putAt t 172 (r .controller .reason)
     → u ≡ recordBytes r
 unfolding recordBytes
 record-is r lh lk em e1 e2 e3 e4 e5 e6 =
-    reasons-are (recordFront (recordMarks r) (r .identity .oui) (r .host .last) (r .ctrl .last)) (r .host .reason) (r .ctrl .reason) refl lh lk
+    reasons-are (recordFront (recordMarks r) (r .identity .oui) (r .host .last) (r .controller .last)) (r .host .reason) (r .controller .reason) refl lh lk
     (e5 ∙ ap (λ (x : List ℕ). putAt x 44 (r .host .reason)) (record-front r em e1 e2 e3 e4))
     e6

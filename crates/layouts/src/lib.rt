@@ -1,6 +1,6 @@
 // The structs of include/bumbazeel.h as bytes: a controller's record, a collection's state, what follows a step, and a header's fields.
 //
-// It rests on basics, parts, pages, words, header, records, course and collection. It promises that each struct is written to and read
+// It rests on choices, copies, pages, words, header, records, course and collection. It promises that each struct is written to and read
 // from exactly the bytes of specs/Layouts.antt, whatever they are, and that what is written reads back to what it was (specs/Back.antt).
 use collection::Collection;
 use collection::Next;
@@ -8,7 +8,7 @@ use course::Phase;
 use course::Plan;
 use header::Fields;
 use pages::Caps;
-use records::CtrlPage;
+use records::ControllerPage;
 use records::HostPage;
 use records::Identity;
 use records::Record;
@@ -16,11 +16,11 @@ use words::Words;
 ghost use mathlib.Core.Path.{_≡_};
 ghost use Prim.Native.Nat.{_+_, _*_, _≤_};
 ghost use lib.ListN.{length};
-ghost use Rattle.basics.specs.Choice.{pick};
-ghost use Rattle.basics.specs.Numbers.{bytesOf, valueAt};
-ghost use Rattle.parts.specs.Parts.{putAt};
+ghost use Rattle.choices.specs.Choice.{pick};
+ghost use Rattle.choices.specs.Numbers.{bytesOf, valueAt};
+ghost use Rattle.copies.specs.Parts.{putAt};
 ghost use Rattle.words.specs.Words.{noWords};
-ghost use Rattle.layouts.specs.Layouts.{capsByte, capsOf, lastBytes, lastAt, reasonAt, recordMarks, recordBytes, hostAt, ctrlAt, recordAt, recordSound, phaseByte, chunkStart, phaseOf, stateMarks, stateBytes, planAt, stateAt, stateSound, nextParts, nextBytes, fieldsBytes};
+ghost use Rattle.layouts.specs.Layouts.{capsByte, capsOf, lastBytes, lastAt, reasonAt, recordMarks, recordBytes, hostAt, controllerAt, recordAt, recordSound, phaseByte, chunkStart, phaseOf, stateMarks, stateBytes, planAt, stateAt, stateSound, nextParts, nextBytes, fieldsBytes};
 
 // The greatest byte of capabilities.
 pub const MOST_CAPS: u8 = 31;
@@ -42,7 +42,7 @@ fn bit(t: bool, value: u8) -> u8
 fn caps_byte(c: Caps) -> u8
     ensures { λ r. ⌜ r ≡ capsByte c ⌝ }
 {
-    bit(c.ext, 1) + bit(c.tel, 2) + bit(c.da4s, 4) + bit(c.etdas, 8) + bit(c.mcdas, 16)
+    bit(c.extended, 1) + bit(c.telemetry, 2) + bit(c.da4s, 4) + bit(c.etdas, 8) + bit(c.mcdas, 16)
 }
 
 // The capabilities that a byte says; none for a byte over 31.
@@ -51,8 +51,8 @@ pub fn read_caps(b: u8) -> Caps
 {
     let known = b <= MOST_CAPS;
     Caps {
-        ext: known & (b % 2 == 1),
-        tel: known & (b / 2 % 2 == 1),
+        extended: known & (b % 2 == 1),
+        telemetry: known & (b / 2 % 2 == 1),
         da4s: known & (b / 4 % 2 == 1),
         etdas: known & (b / 8 % 2 == 1),
         mcdas: known & (b / 16 % 2 == 1),
@@ -70,7 +70,7 @@ fn put_word(out: &mut [u8], at: usize, x: u32)
         (x / 256 / 256 % 256) as u8,
         (x / 256 / 256 / 256 % 256) as u8,
     ];
-    parts::put(&b, out, at);
+    copies::put(&b, out, at);
 }
 
 fn put_long(out: &mut [u8], at: usize, x: u64)
@@ -86,7 +86,7 @@ fn put_long(out: &mut [u8], at: usize, x: u64)
         (x / 256 / 256 / 256 / 256 / 256 / 256 % 256) as u8,
         (x / 256 / 256 / 256 / 256 / 256 / 256 / 256 % 256) as u8,
     ];
-    parts::put(&b, out, at);
+    copies::put(&b, out, at);
 }
 
 fn put_last(out: &mut [u8], at: usize, a: [u32; 4])
@@ -97,14 +97,14 @@ fn put_last(out: &mut [u8], at: usize, a: [u32; 4])
     put_word(&mut b, 4, a[1]);
     put_word(&mut b, 8, a[2]);
     put_word(&mut b, 12, a[3]);
-    parts::put(&b, out, at);
+    copies::put(&b, out, at);
 }
 
 // The contract says the array's length too, which whoever puts a reason needs.
 fn put_reason(out: &mut [u8], at: usize, reason: [u8; 128])
     ensures { λ _. ⌜ (now (out .exit) ≡ putAt (now (out .entry)) at reason) × (length reason ≡ 128) ⌝ }
 {
-    parts::put(&reason, out, at);
+    copies::put(&reason, out, at);
 }
 
 fn of4(a: u8, b: u8, c: u8, d: u8) -> u32
@@ -143,7 +143,7 @@ fn reason_at(b: &[u8], i: usize) -> [u8; 128]
     ensures { λ r. ⌜ r ≡ reasonAt i (now (b .entry)) ⌝ }
 {
     let mut reason = [0u8; 128];
-    parts::put(&b[i..i + 128], &mut reason, 0);
+    copies::put(&b[i..i + 128], &mut reason, 0);
     reason
 }
 
@@ -155,16 +155,16 @@ fn record_marks(r: Record) -> [u8; 8]
     let caps = r.caps;
     let identity = r.identity;
     let host = r.host;
-    let ctrl = r.ctrl;
+    let controller = r.controller;
     let can = caps_byte(caps);
-    let notice = bit(ctrl.notice, 1);
+    let notice = bit(controller.notice, 1);
     [
         can,
         identity.hostscope,
-        identity.ctrlscope,
+        identity.controllerscope,
         host.generation,
-        ctrl.generation,
-        ctrl.tcda,
+        controller.generation,
+        controller.tcda,
         notice,
         0,
     ]
@@ -176,18 +176,18 @@ pub fn write_record(r: Record) -> [u8; 300]
 {
     let identity = r.identity;
     let host = r.host;
-    let ctrl = r.ctrl;
+    let controller = r.controller;
     let host_last = host.last;
     let host_reason = host.reason;
-    let ctrl_last = ctrl.last;
-    let ctrl_reason = ctrl.reason;
+    let controller_last = controller.last;
+    let controller_reason = controller.reason;
     let mut out = [0u8; 300];
-    parts::put(&record_marks(r), &mut out, 0);
+    copies::put(&record_marks(r), &mut out, 0);
     put_word(&mut out, 8, identity.oui);
     put_last(&mut out, 12, host_last);
-    put_last(&mut out, 28, ctrl_last);
+    put_last(&mut out, 28, controller_last);
     put_reason(&mut out, 44, host_reason);
-    put_reason(&mut out, 172, ctrl_reason);
+    put_reason(&mut out, 172, controller_reason);
     out
 }
 
@@ -203,12 +203,12 @@ fn host_at(b: &[u8; 300]) -> HostPage
     }
 }
 
-fn ctrl_at(b: &[u8; 300]) -> CtrlPage
-    ensures { λ x. ⌜ x ≡ ctrlAt (now (b .entry)) ⌝ }
+fn controller_at(b: &[u8; 300]) -> ControllerPage
+    ensures { λ x. ⌜ x ≡ controllerAt (now (b .entry)) ⌝ }
 {
     let last = last_at(b, 28);
     let reason = reason_at(b, 172);
-    CtrlPage {
+    ControllerPage {
         last,
         generation: b[4],
         tcda: b[5],
@@ -225,15 +225,15 @@ pub fn read_record(b: &[u8; 300]) -> Record
     let identity = Identity {
         oui: word_at(b, 8),
         hostscope: b[1],
-        ctrlscope: b[2],
+        controllerscope: b[2],
     };
     let host = host_at(b);
-    let ctrl = ctrl_at(b);
+    let controller = controller_at(b);
     Record {
         caps,
         identity,
         host,
-        ctrl,
+        controller,
     }
 }
 
@@ -314,7 +314,7 @@ pub fn write_state(s: Collection) -> [u8; 56]
     let phase = s.phase;
     let last = s.last;
     let mut out = [0u8; 56];
-    parts::put(&state_marks(s), &mut out, 0);
+    copies::put(&state_marks(s), &mut out, 0);
     put_word(&mut out, 8, plan.chunk);
     put_word(&mut out, 12, plan.attempts);
     put_word(&mut out, 16, s.attempt);
@@ -421,9 +421,9 @@ pub fn write_fields(f: Fields) -> [u8; 156]
     let mut out = [0u8; 156];
     out[0] = f.page;
     out[1] = f.scope;
-    out[2] = f.hostgen;
+    out[2] = f.hostgeneration;
     out[3] = f.tcda;
-    out[4] = f.ctrlgen;
+    out[4] = f.controllergeneration;
     put_word(&mut out, 8, f.oui);
     put_last(&mut out, 12, last);
     put_reason(&mut out, 28, reason);

@@ -5,20 +5,20 @@ use mathlib.Core.List.{List, [], _∷_}
 use mathlib.Core.Bool.{Bool, _&&_, _||_}
 use lib.ListN.{getD}
 use lib.Dec.{ltb, leb, eqb}
-use Rattle.basics.specs.Choice.{pick, smaller, larger}
-use Rattle.basics.specs.Tests.{holds}
+use Rattle.choices.specs.Choice.{pick, smaller, larger}
+use Rattle.choices.specs.Tests.{holds}
 use Rattle.pages.specs.declared.Caps.{Caps}
 
 -- telemetry host-initiated, telemetry controller-initiated
 abbrev pub hostPage : ℕ
 hostPage = 0x07
 
-abbrev pub ctrlPage : ℕ
-ctrlPage = 0x08
+abbrev pub controllerPage : ℕ
+controllerPage = 0x08
 
 -- one of the two
 abbrev pub telemetryPage : ℕ → Bool
-telemetryPage page = eqb page hostPage || eqb page ctrlPage
+telemetryPage page = eqb page hostPage || eqb page controllerPage
 
 -- the bytes of a block, and of the header
 abbrev pub block : ℕ

@@ -8,8 +8,8 @@ use native.Mathlib.Omega.{arith}
 use lib.ListN.{getD}
 use lib.Dec.{ltb, leb, eqb}
 use borrow.Author.Tests.{leb-true, ltb-true, eqb-true, le-leb, lt-ltb, eq-eqb, leb-false}
-use Rattle.basics.specs.Choice.{pick, pick-cases, smaller, larger, larger-left, larger-right}
-use Rattle.basics.specs.Tests.{holds, each, and-left, and-right, or-cases, clash}
+use Rattle.choices.specs.Choice.{pick, pick-cases, smaller, larger, larger-left, larger-right}
+use Rattle.choices.specs.Tests.{holds, each, and-left, and-right, or-cases, clash}
 use Rattle.pages.specs.declared.Caps.{Caps}
 use Rattle.pages.specs.Pages.{most3, most4, area4Ok, lastTests, lastOk, lastOf, greatestOf, area4, blocksOf, topOf, trimmedTo, trimOf}
 

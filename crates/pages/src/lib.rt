@@ -1,7 +1,7 @@
 // The two telemetry pages: their numbers, and the four last blocks of a page's areas, as one group by value: their rule, the page's
 // size, and what a capture keeps of a candidate's.
 //
-// It rests on basics. It promises that each answer is that of specs/Pages.antt for any four numbers, and that trimming a candidate
+// It rests on choices. It promises that each answer is that of specs/Pages.antt for any four numbers, and that trimming a candidate
 // whose numbers are in order gives last blocks that keep the rule (specs/Trimmed.antt).
 ghost use mathlib.Core.Path.{_≡_};
 ghost use Prim.Native.Nat.{_+_, _*_};
@@ -10,7 +10,7 @@ ghost use Rattle.pages.specs.Pages.{block, area4Ok, lastOk, lastOf, grea
 // Telemetry host-initiated.
 pub const HOST: u8 = 0x07;
 // Telemetry controller-initiated.
-pub const CTRL: u8 = 0x08;
+pub const CONTROLLER: u8 = 0x08;
 // The bytes of a block, and of the header.
 pub const BLOCK: usize = 512;
 // The greatest last block of areas 1 to 3: it is two bytes wide.
@@ -21,8 +21,8 @@ pub const MOST_4: u32 = 1048576;
 // What a controller can do: extended data (LPA bit 2), telemetry (LPA bit 3), area 4 (LPA bit 6, DA4S), the host's yes to area 4
 // (ETDAS), and that MCDA is honoured (MCDAS).
 pub struct Caps {
-    pub ext: bool,
-    pub tel: bool,
+    pub extended: bool,
+    pub telemetry: bool,
     pub da4s: bool,
     pub etdas: bool,
     pub mcdas: bool,
@@ -31,7 +31,7 @@ pub struct Caps {
 fn area4_ok(da4s: bool, a3: u32, a4: u32) -> bool
     ensures { λ r. ⌜ r ≡ area4Ok da4s a3 a4 ⌝ }
 {
-    basics::pick_bool(
+    choices::pick_bool(
         da4s,
         (a3 <= a4) & (a4 <= MOST_4) & ((a4 == 0) | (0 < a3)),
         a4 == 0,
@@ -49,10 +49,10 @@ pub fn last_ok(da4s: bool, a: [u32; 4]) -> bool
 pub fn last_of(area: u32, a: [u32; 4]) -> u32
     ensures { λ r. ⌜ r ≡ lastOf area a ⌝ }
 {
-    basics::pick_u32(
+    choices::pick_u32(
         area == 1,
         a[0],
-        basics::pick_u32(area == 2, a[1], basics::pick_u32(area == 3, a[2], a[3])),
+        choices::pick_u32(area == 2, a[1], choices::pick_u32(area == 3, a[2], a[3])),
     )
 }
 
@@ -60,9 +60,9 @@ pub fn last_of(area: u32, a: [u32; 4]) -> u32
 pub fn greatest(a: [u32; 4]) -> u32
     ensures { λ r. ⌜ r ≡ greatestOf a ⌝ }
 {
-    basics::larger_u32(
+    choices::larger_u32(
         a[0],
-        basics::larger_u32(a[1], basics::larger_u32(a[2], a[3])),
+        choices::larger_u32(a[1], choices::larger_u32(a[2], a[3])),
     )
 }
 
@@ -77,7 +77,7 @@ pub fn in_bytes(blocks: u32) -> usize
 pub fn blocks(caps: Caps, a: [u32; 4]) -> u32
     ensures { λ r. ⌜ r ≡ blocksOf caps a ⌝ }
 {
-    basics::pick_u32(caps.da4s & caps.etdas, a[3], a[2])
+    choices::pick_u32(caps.da4s & caps.etdas, a[3], a[2])
 }
 
 // The page's size in bytes, its header included.
@@ -91,19 +91,19 @@ pub fn size(caps: Caps, a: [u32; 4]) -> usize
 pub fn top(caps: Caps, mcda: u32) -> u32
     ensures { λ r. ⌜ r ≡ topOf caps mcda ⌝ }
 {
-    let m = basics::pick_u32(caps.da4s & caps.etdas, 4, 3);
-    let cut = basics::smaller_u32(m, mcda);
-    basics::pick_u32(caps.mcdas & (1 <= mcda) & (mcda <= 4), cut, m)
+    let m = choices::pick_u32(caps.da4s & caps.etdas, 4, 3);
+    let cut = choices::smaller_u32(m, mcda);
+    choices::pick_u32(caps.mcdas & (1 <= mcda) & (mcda <= 4), cut, m)
 }
 
 fn trimmed_to(da4s: bool, m: u32, a: [u32; 4]) -> [u32; 4]
     ensures { λ r. ⌜ r ≡ trimmedTo da4s m a ⌝ }
 {
-    let s1 = last_of(basics::smaller_u32(1, m), a);
-    let s2 = last_of(basics::smaller_u32(2, m), a);
-    let s3 = last_of(basics::smaller_u32(3, m), a);
-    let s4 = last_of(basics::smaller_u32(4, m), a);
-    [s1, s2, s3, basics::pick_u32(da4s, s4, 0)]
+    let s1 = last_of(choices::smaller_u32(1, m), a);
+    let s2 = last_of(choices::smaller_u32(2, m), a);
+    let s3 = last_of(choices::smaller_u32(3, m), a);
+    let s4 = last_of(choices::smaller_u32(4, m), a);
+    [s1, s2, s3, choices::pick_u32(da4s, s4, 0)]
 }
 
 // The four last blocks that a capture stores of a candidate's.

@@ -6,7 +6,7 @@ use mathlib.Core.Bool.{true}
 use native.Mathlib.Omega.{arith}
 use lib.Dec.{leb}
 use borrow.Author.Tests.{leb-true}
-use Rattle.basics.specs.Tests.{and-left, and-right}
+use Rattle.choices.specs.Tests.{and-left, and-right}
 use Rattle.pages.specs.Pages.{block}
 use Rattle.reader.specs.Reader.{moreAt}
 

@@ -6,7 +6,7 @@ use mathlib.Core.Bool.{Bool, true, false, _&&_}
 use mathlib.Core.List.{List, []}
 use lib.Dec.{leb}
 use lib.ListN.{length, take, drop}
-use Rattle.basics.specs.Choice.{pick}
+use Rattle.choices.specs.Choice.{pick}
 use Rattle.pages.specs.Pages.{block}
 use Rattle.reader.specs.declared.Place.{Place}
 

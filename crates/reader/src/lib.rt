@@ -1,7 +1,7 @@
 // A reader of a finished copy: it holds the copy and a place in bytes, hands out the next block as that very part of the copy, and moves
 // on by a block, or says that it is at the end.
 //
-// It rests on basics and pages. It promises for any copy and any place which part is handed out, by its bytes and by where it lies, and
+// It rests on choices and pages. It promises for any copy and any place which part is handed out, by its bytes and by where it lies, and
 // the next place (specs/Reader.antt). The plain step over copy and place is `block_at` and `place_at`; `next` takes a reader apart and
 // calls them, and `first` goes from a plain copy through a reader to its first block.
 ghost use mathlib.Core.Path.{_≡_};

@@ -9,16 +9,16 @@ use native.Mathlib.Omega.{arith}
 use lib.ListN.{length, getD}
 use lib.Dec.{ltb, eqb}
 use borrow.Author.Tests.{leb-true, ltb-true, eqb-true, le-leb, lt-ltb, eq-eqb}
-use Rattle.basics.specs.Tests.{holds, each, or-cases, clash, implied, implies}
+use Rattle.choices.specs.Tests.{holds, each, or-cases, clash, implied, implies}
 use Rattle.answers.specs.Answers.{success}
-use Rattle.pages.specs.Pages.{hostPage, ctrlPage, telemetryPage, block, area4Ok, lastOk, greatestOf}
+use Rattle.pages.specs.Pages.{hostPage, controllerPage, telemetryPage, block, area4Ok, lastOk, greatestOf}
 use Rattle.pages.specs.Trimmed.{LastRule, last-rule, rule-last}
 use Rattle.pages.specs.declared.Caps.{Caps}
 use Rattle.header.specs.Header.{headerOf, fieldsOk, checkOf}
 use Rattle.header.specs.Back.{header-reads-back}
 use Rattle.records.specs.declared.Identity.{Identity}
 use Rattle.records.specs.declared.Record.{Record}
-use Rattle.records.specs.Records.{identityOk, storeOk, ctrlOk, agreesWith, hostFields, ctrlFields, fieldsFor, freshOf}
+use Rattle.records.specs.Records.{identityOk, storeOk, controllerOk, agreesWith, hostFields, controllerFields, fieldsFor, freshOf}
 
 -- ---- agreement as facts, one way and the other
 
@@ -26,15 +26,15 @@ pub record StoreFits (da4s : Bool) (last : List ℕ) (store : ℕ) : Type 0 wher
   pub rule : LastRule da4s last
   pub room : block * greatestOf last ≤ store
 
-pub record CtrlFits (da4s : Bool) (tcda : ℕ) (last : List ℕ) (store : ℕ) : Type 0 where
+pub record ControllerFits (da4s : Bool) (tcda : ℕ) (last : List ℕ) (store : ℕ) : Type 0 where
   pub fits : StoreFits da4s last store
   pub flag : tcda ≤ 1
   pub empty : tcda ≡ 0 → greatestOf last ≡ 0
   pub some : tcda ≡ 1 → 0 < getD last 2 0
 
-pub record Agreed (r : Record) (hostStore ctrlStore : ℕ) : Type 0 where
+pub record Agreed (r : Record) (hostStore controllerStore : ℕ) : Type 0 where
   pub host : StoreFits (r .caps .da4s) (r .host .last) hostStore
-  pub ctrl : CtrlFits (r .caps .da4s) (r .ctrl .tcda) (r .ctrl .last) ctrlStore
+  pub controller : ControllerFits (r .caps .da4s) (r .controller .tcda) (r .controller .last) controllerStore
   pub identity : identityOk (r .identity) ≡ true
 
 store-fits : (da4s : Bool) (last : List ℕ) (store : ℕ) → storeOk da4s last store ≡ true → StoreFits da4s last store
@@ -45,18 +45,18 @@ fits-store : (da4s : Bool) (last : List ℕ) (store : ℕ) → StoreFits da4s la
 unfolding storeOk holds
 fits-store da4s last store f = rw (rule-last da4s last (f .rule)) (le-leb _ _ (f .room))
 
-ctrl-fits : (da4s : Bool) (tcda : ℕ) (last : List ℕ) (store : ℕ) → ctrlOk da4s tcda last store ≡ true → CtrlFits da4s tcda last store
-unfolding ctrlOk
-ctrl-fits da4s tcda last store e = record {
+controller-fits : (da4s : Bool) (tcda : ℕ) (last : List ℕ) (store : ℕ) → controllerOk da4s tcda last store ≡ true → ControllerFits da4s tcda last store
+unfolding controllerOk
+controller-fits da4s tcda last store e = record {
   fits = store-fits da4s last store (each _ e 0);
   flag = leb-true _ _ (each _ e 1);
   empty = λ z. eqb-true _ _ (implied (eqb tcda 0) _ (each _ e 2) (eq-eqb tcda 0 z));
   some = λ z. ltb-true _ _ (implied (eqb tcda 1) _ (each _ e 3) (eq-eqb tcda 1 z));
 }
 
-fits-ctrl : (da4s : Bool) (tcda : ℕ) (last : List ℕ) (store : ℕ) → CtrlFits da4s tcda last store → ctrlOk da4s tcda last store ≡ true
-unfolding ctrlOk holds
-fits-ctrl da4s tcda last store f =
+fits-controller : (da4s : Bool) (tcda : ℕ) (last : List ℕ) (store : ℕ) → ControllerFits da4s tcda last store → controllerOk da4s tcda last store ≡ true
+unfolding controllerOk holds
+fits-controller da4s tcda last store f =
     rw (
       fits-store da4s last store (f .fits),
       le-leb tcda 1 (f .flag),
@@ -64,17 +64,17 @@ fits-ctrl da4s tcda last store f =
     )
     (implies (eqb tcda 1) (ltb 0 (getD last 2 0)) (λ z. lt-ltb 0 _ (f .some (eqb-true tcda 1 z))))
 
-pub agreed : (r : Record) (hostStore ctrlStore : ℕ) → agreesWith r hostStore ctrlStore ≡ true → Agreed r hostStore ctrlStore
+pub agreed : (r : Record) (hostStore controllerStore : ℕ) → agreesWith r hostStore controllerStore ≡ true → Agreed r hostStore controllerStore
 unfolding agreesWith
-agreed r hostStore ctrlStore e = record {
+agreed r hostStore controllerStore e = record {
   host = store-fits _ _ _ (each _ e 0);
-  ctrl = ctrl-fits _ _ _ _ (each _ e 1);
+  controller = controller-fits _ _ _ _ (each _ e 1);
   identity = each _ e 2;
 }
 
-pub agrees-where : (r : Record) (hostStore ctrlStore : ℕ) → Agreed r hostStore ctrlStore → agreesWith r hostStore ctrlStore ≡ true
+pub agrees-where : (r : Record) (hostStore controllerStore : ℕ) → Agreed r hostStore controllerStore → agreesWith r hostStore controllerStore ≡ true
 unfolding agreesWith holds
-agrees-where r hostStore ctrlStore a = rw (fits-store _ _ _ (a .host), fits-ctrl _ _ _ _ (a .ctrl)) (a .identity)
+agrees-where r hostStore controllerStore a = rw (fits-store _ _ _ (a .host), fits-controller _ _ _ _ (a .controller)) (a .identity)
 
 -- ---- reading back
 
@@ -82,12 +82,12 @@ agrees-where r hostStore ctrlStore a = rw (fits-store _ _ _ (a .host), fits-ctrl
 pub record Sized (r : Record) : Type 0 where
   pub host-four : length (r .host .last) ≡ 4
   pub host-reason : length (r .host .reason) ≡ 128
-  pub ctrl-four : length (r .ctrl .last) ≡ 4
-  pub ctrl-reason : length (r .ctrl .reason) ≡ 128
+  pub controller-four : length (r .controller .last) ≡ 4
+  pub controller-reason : length (r .controller .reason) ≡ 128
 
 record Known (i : Identity) : Type 0 where
   host-scope : i .hostscope ≤ 2
-  ctrl-scope : i .ctrlscope ≤ 2
+  controller-scope : i .controllerscope ≤ 2
   short : i .oui < 16777216
 
 scope-most : (s : ℕ) → eqb s 1 || eqb s 2 ≡ true → s ≤ 2
@@ -97,7 +97,7 @@ known : (i : Identity) → identityOk i ≡ true → Known i
 unfolding identityOk
 known i e = record {
   host-scope = scope-most (i .hostscope) (each _ e 0);
-  ctrl-scope = scope-most (i .ctrlscope) (each _ e 1);
+  controller-scope = scope-most (i .controllerscope) (each _ e 1);
   short = ltb-true _ _ (each _ e 2);
 }
 
@@ -107,52 +107,52 @@ available zero a3 h f = refl
 available (suc zero) a3 h f = rw (lt-ltb 0 a3 (f refl))
 available (suc (suc n)) a3 h f = absurd (omega arith)
 
-host-fine : (r : Record) (hostStore ctrlStore : ℕ) → Agreed r hostStore ctrlStore → fieldsOk hostPage (r .caps .da4s) (hostFields r) ≡ true
+host-fine : (r : Record) (hostStore controllerStore : ℕ) → Agreed r hostStore controllerStore → fieldsOk hostPage (r .caps .da4s) (hostFields r) ≡ true
 unfolding fieldsOk holds hostFields
-host-fine r hostStore ctrlStore a =
+host-fine r hostStore controllerStore a =
     rw (
       rule-last (r .caps .da4s) (r .host .last) (a .host .rule),
       le-leb (r .identity .hostscope) 2 (known (r .identity) (a .identity) .host-scope),
-      le-leb (r .ctrl .tcda) 1 (a .ctrl .flag),
+      le-leb (r .controller .tcda) 1 (a .controller .flag),
     )
 
-ctrl-fine : (r : Record) (hostStore ctrlStore : ℕ) → Agreed r hostStore ctrlStore → fieldsOk ctrlPage (r .caps .da4s) (ctrlFields r) ≡ true
-unfolding fieldsOk holds ctrlFields
-ctrl-fine r hostStore ctrlStore a =
+controller-fine : (r : Record) (hostStore controllerStore : ℕ) → Agreed r hostStore controllerStore → fieldsOk controllerPage (r .caps .da4s) (controllerFields r) ≡ true
+unfolding fieldsOk holds controllerFields
+controller-fine r hostStore controllerStore a =
     rw (
-      rule-last (r .caps .da4s) (r .ctrl .last) (a .ctrl .fits .rule),
-      le-leb (r .identity .ctrlscope) 2 (known (r .identity) (a .identity) .ctrl-scope),
-      le-leb (r .ctrl .tcda) 1 (a .ctrl .flag),
+      rule-last (r .caps .da4s) (r .controller .last) (a .controller .fits .rule),
+      le-leb (r .identity .controllerscope) 2 (known (r .identity) (a .identity) .controller-scope),
+      le-leb (r .controller .tcda) 1 (a .controller .flag),
     )
-    (available (r .ctrl .tcda) (getD (r .ctrl .last) 2 0) (a .ctrl .flag) (a .ctrl .some))
+    (available (r .controller .tcda) (getD (r .controller .last) 2 0) (a .controller .flag) (a .controller .some))
 
 -- Demand 2: the header of an agreeing record is checked to exactly the fields that it was written from.
-pub record-reads-back : (r : Record) (hostStore ctrlStore : ℕ) (page : ℕ) → Sized r → agreesWith r hostStore ctrlStore ≡ true
+pub record-reads-back : (r : Record) (hostStore controllerStore : ℕ) (page : ℕ) → Sized r → agreesWith r hostStore controllerStore ≡ true
     → telemetryPage page ≡ true
     → checkOf page (r .caps .da4s) (headerOf (fieldsFor page r)) ≡ record { answer = success; fields = fieldsFor page r }
-unfolding fieldsFor hostFields ctrlFields
-record-reads-back r hostStore ctrlStore page z e p =
-    let a = agreed r hostStore ctrlStore e in
+unfolding fieldsFor hostFields controllerFields
+record-reads-back r hostStore controllerStore page z e p =
+    let a = agreed r hostStore controllerStore e in
     let k = known (r .identity) (a .identity) in
-    or-cases (eqb page hostPage) (eqb page ctrlPage) p
+    or-cases (eqb page hostPage) (eqb page controllerPage) p
     (λ q.
     rw (eqb-true page hostPage q)
     (header-reads-back (r .caps .da4s) (hostFields r)
     (record { oui = k .short; four = z .host-four; host = λ n. clash refl n; reason = z .host-reason })
-    (host-fine r hostStore ctrlStore a)))
+    (host-fine r hostStore controllerStore a)))
     (λ q.
-    rw (eqb-true page ctrlPage q)
-    (header-reads-back (r .caps .da4s) (ctrlFields r)
-    (record { oui = k .short; four = z .ctrl-four; host = λ n. refl; reason = z .ctrl-reason })
-    (ctrl-fine r hostStore ctrlStore a)))
+    rw (eqb-true page controllerPage q)
+    (header-reads-back (r .caps .da4s) (controllerFields r)
+    (record { oui = k .short; four = z .controller-four; host = λ n. refl; reason = z .controller-reason })
+    (controller-fine r hostStore controllerStore a)))
 
 no-area4 : (da4s : Bool) → area4Ok da4s 0 0 ≡ true
 no-area4 true = refl
 no-area4 false = refl
 
 -- a fresh record of a fine identity agrees with any stores
-pub fresh-agrees : (caps : Caps) (identity : Identity) (hostStore ctrlStore : ℕ) → identityOk identity ≡ true
-    → agreesWith (freshOf caps identity) hostStore ctrlStore ≡ true
-unfolding freshOf agreesWith ctrlOk storeOk lastOk holds greatestOf
-fresh-agrees caps identity hostStore ctrlStore e =
-    rw (no-area4 (caps .da4s), le-leb 0 hostStore (omega arith), le-leb 0 ctrlStore (omega arith)) e
+pub fresh-agrees : (caps : Caps) (identity : Identity) (hostStore controllerStore : ℕ) → identityOk identity ≡ true
+    → agreesWith (freshOf caps identity) hostStore controllerStore ≡ true
+unfolding freshOf agreesWith controllerOk storeOk lastOk holds greatestOf
+fresh-agrees caps identity hostStore controllerStore e =
+    rw (no-area4 (caps .da4s), le-leb 0 hostStore (omega arith), le-leb 0 controllerStore (omega arith)) e

@@ -5,10 +5,10 @@ use mathlib.Core.List.{List, [], _∷_}
 use mathlib.Core.Bool.{Bool, false, not, _||_}
 use lib.ListN.{getD}
 use lib.Dec.{ltb, leb, eqb}
-use Rattle.basics.specs.Choice.{pick}
-use Rattle.basics.specs.Tests.{holds}
-use Rattle.parts.specs.Parts.{zeros}
-use Rattle.pages.specs.Pages.{hostPage, ctrlPage, block, lastOk, greatestOf}
+use Rattle.choices.specs.Choice.{pick}
+use Rattle.choices.specs.Tests.{holds}
+use Rattle.copies.specs.Parts.{zeros}
+use Rattle.pages.specs.Pages.{hostPage, controllerPage, block, lastOk, greatestOf}
 use Rattle.pages.specs.declared.Caps.{Caps}
 use Rattle.header.specs.declared.Fields.{Fields}
 use Rattle.records.specs.declared.Identity.{Identity}
@@ -19,7 +19,7 @@ unfoldable pub identityOk : Identity → Bool
 identityOk i =
     holds
     ((eqb (i .hostscope) 1 || eqb (i .hostscope) 2)
-    ∷ (eqb (i .ctrlscope) 1 || eqb (i .ctrlscope) 2)
+    ∷ (eqb (i .controllerscope) 1 || eqb (i .controllerscope) 2)
     ∷ ltb (i .oui) 16777216
     ∷ [])
 
@@ -28,8 +28,8 @@ unfoldable pub storeOk : Bool → List ℕ → ℕ → Bool
 storeOk da4s last store = holds (lastOk da4s last ∷ leb (block * greatestOf last) store ∷ [])
 
 -- on 08h besides: TCDA is at most 1; where it is 0 all last blocks are 0, and where it is 1 a3 is not
-unfoldable pub ctrlOk : Bool → ℕ → List ℕ → ℕ → Bool
-ctrlOk da4s tcda last store =
+unfoldable pub controllerOk : Bool → ℕ → List ℕ → ℕ → Bool
+controllerOk da4s tcda last store =
     holds
     (storeOk da4s last store
     ∷ leb tcda 1
@@ -39,10 +39,10 @@ ctrlOk da4s tcda last store =
 
 -- the record agrees with host and controller stores of these many bytes
 unfoldable pub agreesWith : Record → ℕ → ℕ → Bool
-agreesWith r hostStore ctrlStore =
+agreesWith r hostStore controllerStore =
     holds
     (storeOk (r .caps .da4s) (r .host .last) hostStore
-    ∷ ctrlOk (r .caps .da4s) (r .ctrl .tcda) (r .ctrl .last) ctrlStore
+    ∷ controllerOk (r .caps .da4s) (r .controller .tcda) (r .controller .last) controllerStore
     ∷ identityOk (r .identity)
     ∷ [])
 
@@ -53,28 +53,28 @@ hostFields r = record {
   oui = r .identity .oui;
   last = r .host .last;
   scope = r .identity .hostscope;
-  hostgen = r .host .generation;
-  tcda = r .ctrl .tcda;
-  ctrlgen = r .ctrl .generation;
+  hostgeneration = r .host .generation;
+  tcda = r .controller .tcda;
+  controllergeneration = r .controller .generation;
   reason = r .host .reason;
 }
 
 -- what an 08h header shows
-unfoldable pub ctrlFields : Record → Fields
-ctrlFields r = record {
-  page = ctrlPage;
+unfoldable pub controllerFields : Record → Fields
+controllerFields r = record {
+  page = controllerPage;
   oui = r .identity .oui;
-  last = r .ctrl .last;
-  scope = r .identity .ctrlscope;
-  hostgen = 0;
-  tcda = r .ctrl .tcda;
-  ctrlgen = r .ctrl .generation;
-  reason = r .ctrl .reason;
+  last = r .controller .last;
+  scope = r .identity .controllerscope;
+  hostgeneration = 0;
+  tcda = r .controller .tcda;
+  controllergeneration = r .controller .generation;
+  reason = r .controller .reason;
 }
 
 -- what a header of the page shows
 unfoldable pub fieldsFor : ℕ → Record → Fields
-fieldsFor page r = pick (eqb page hostPage) (hostFields r) (ctrlFields r)
+fieldsFor page r = pick (eqb page hostPage) (hostFields r) (controllerFields r)
 
 -- a record before any capture
 unfoldable pub freshOf : Caps → Identity → Record
@@ -82,5 +82,5 @@ freshOf caps identity = record {
   caps = caps;
   identity = identity;
   host = record { last = zeros 4; generation = 0; reason = zeros 128 };
-  ctrl = record { last = zeros 4; generation = 0; tcda = 0; notice = false; reason = zeros 128 };
+  controller = record { last = zeros 4; generation = 0; tcda = 0; notice = false; reason = zeros 128 };
 }

@@ -1,19 +1,19 @@
 // A controller's record: what it can do, who it is, and what its two pages hold beside their stores.
 //
-// It rests on basics, parts, pages and header. It promises when a record and the lent stores agree, what a header of each page shows
+// It rests on choices, copies, pages and header. It promises when a record and the lent stores agree, what a header of each page shows
 // of a record (specs/Records.antt), and that the header of an agreeing record is checked by the host to just that (specs/Back.antt).
 // The four parts are structs of their own, since later they do not all belong to one controller.
 use header::Fields;
 use pages::Caps;
 ghost use mathlib.Core.Path.{_≡_};
 ghost use Prim.Native.Nat.{_*_};
-ghost use Rattle.records.specs.Records.{identityOk, storeOk, ctrlOk, agreesWith, hostFields, ctrlFields, fieldsFor, freshOf};
+ghost use Rattle.records.specs.Records.{identityOk, storeOk, controllerOk, agreesWith, hostFields, controllerFields, fieldsFor, freshOf};
 
 // Fixed for a controller's life: the OUI, and the scopes of its 07h and its 08h data.
 pub struct Identity {
     pub oui: u32,
     pub hostscope: u8,
-    pub ctrlscope: u8,
+    pub controllerscope: u8,
 }
 
 // Page 07h, host-initiated.
@@ -24,7 +24,7 @@ pub struct HostPage {
 }
 
 // Page 08h, controller-initiated. `notice` is the event that tells a host of it.
-pub struct CtrlPage {
+pub struct ControllerPage {
     pub last: [u32; 4],
     pub generation: u8,
     pub tcda: u8,
@@ -36,14 +36,14 @@ pub struct Record {
     pub caps: Caps,
     pub identity: Identity,
     pub host: HostPage,
-    pub ctrl: CtrlPage,
+    pub controller: ControllerPage,
 }
 
 fn identity_ok(i: Identity) -> bool
     ensures { λ r. ⌜ r ≡ identityOk i ⌝ }
 {
     ((i.hostscope == 1) | (i.hostscope == 2))
-        & ((i.ctrlscope == 1) | (i.ctrlscope == 2))
+        & ((i.controllerscope == 1) | (i.controllerscope == 2))
         & (i.oui < 16777216)
 }
 
@@ -55,8 +55,8 @@ fn store_ok(da4s: bool, last: [u32; 4], store: usize) -> bool
 }
 
 // TCDA and the last blocks of 08h go together.
-fn ctrl_ok(da4s: bool, tcda: u8, last: [u32; 4], store: usize) -> bool
-    ensures { λ r. ⌜ r ≡ ctrlOk da4s tcda last store ⌝ }
+fn controller_ok(da4s: bool, tcda: u8, last: [u32; 4], store: usize) -> bool
+    ensures { λ r. ⌜ r ≡ controllerOk da4s tcda last store ⌝ }
 {
     let a3 = last[2];
     store_ok(da4s, last, store)
@@ -66,17 +66,22 @@ fn ctrl_ok(da4s: bool, tcda: u8, last: [u32; 4], store: usize) -> bool
 }
 
 // The record agrees with itself and with stores of these many bytes. Where it does not, the answer of a command or a capture is 4.
-pub fn agrees(r: Record, host_store: usize, ctrl_store: usize) -> bool
-    ensures { λ x. ⌜ x ≡ agreesWith r «host_store» «ctrl_store» ⌝ }
+pub fn agrees(r: Record, host_store: usize, controller_store: usize) -> bool
+    ensures { λ x. ⌜ x ≡ agreesWith r «host_store» «controller_store» ⌝ }
 {
     let caps = r.caps;
     let identity = r.identity;
     let host = r.host;
-    let ctrl = r.ctrl;
+    let controller = r.controller;
     let host_last = host.last;
-    let ctrl_last = ctrl.last;
+    let controller_last = controller.last;
     store_ok(caps.da4s, host_last, host_store)
-        & ctrl_ok(caps.da4s, ctrl.tcda, ctrl_last, ctrl_store)
+        & controller_ok(
+            caps.da4s,
+            controller.tcda,
+            controller_last,
+            controller_store,
+        )
         & identity_ok(identity)
 }
 
@@ -85,7 +90,7 @@ fn host_fields(r: Record) -> Fields
 {
     let identity = r.identity;
     let host = r.host;
-    let ctrl = r.ctrl;
+    let controller = r.controller;
     let last = host.last;
     let reason = host.reason;
     Fields {
@@ -93,28 +98,28 @@ fn host_fields(r: Record) -> Fields
         oui: identity.oui,
         last,
         scope: identity.hostscope,
-        hostgen: host.generation,
-        tcda: ctrl.tcda,
-        ctrlgen: ctrl.generation,
+        hostgeneration: host.generation,
+        tcda: controller.tcda,
+        controllergeneration: controller.generation,
         reason,
     }
 }
 
-fn ctrl_fields(r: Record) -> Fields
-    ensures { λ f. ⌜ f ≡ ctrlFields r ⌝ }
+fn controller_fields(r: Record) -> Fields
+    ensures { λ f. ⌜ f ≡ controllerFields r ⌝ }
 {
     let identity = r.identity;
-    let ctrl = r.ctrl;
-    let last = ctrl.last;
-    let reason = ctrl.reason;
+    let controller = r.controller;
+    let last = controller.last;
+    let reason = controller.reason;
     Fields {
-        page: pages::CTRL,
+        page: pages::CONTROLLER,
         oui: identity.oui,
         last,
-        scope: identity.ctrlscope,
-        hostgen: 0,
-        tcda: ctrl.tcda,
-        ctrlgen: ctrl.generation,
+        scope: identity.controllerscope,
+        hostgeneration: 0,
+        tcda: controller.tcda,
+        controllergeneration: controller.generation,
         reason,
     }
 }
@@ -124,7 +129,11 @@ pub fn fields(page: u8, r: Record) -> Fields
     ensures { λ f. ⌜ f ≡ fieldsFor page r ⌝ }
 {
     let host = page == pages::HOST;
-    if host { host_fields(r) } else { ctrl_fields(r) }
+    if host {
+        host_fields(r)
+    } else {
+        controller_fields(r)
+    }
 }
 
 // A record before any capture: generations, last blocks, reasons, TCDA and notice at zero.
@@ -136,7 +145,7 @@ pub fn fresh(caps: Caps, identity: Identity) -> Record
         generation: 0,
         reason: [0; 128],
     };
-    let ctrl = CtrlPage {
+    let controller = ControllerPage {
         last: [0; 4],
         generation: 0,
         tcda: 0,
@@ -147,6 +156,6 @@ pub fn fresh(caps: Caps, identity: Identity) -> Record
         caps,
         identity,
         host,
-        ctrl,
+        controller,
     }
 }

@@ -5,32 +5,32 @@ use mathlib.Core.Path.{_≡_, refl}
 use mathlib.Core.List.{List, [], _∷_, _++_}
 use mathlib.Core.Bool.{Bool, true, false}
 use lib.ListN.{replicate}
-use Rattle.basics.specs.Tests.{holds}
-use Rattle.parts.specs.Parts.{zeros, putAt}
+use Rattle.choices.specs.Tests.{holds}
+use Rattle.copies.specs.Parts.{zeros, putAt}
 use Rattle.pages.specs.declared.Caps.{Caps}
 use Rattle.pages.specs.Pages.{hostPage, lastOk, greatestOf, blocksOf, sizeOf, topOf, trimmedTo, trimOf}
 use Rattle.words.specs.declared.Words.{Words}
 use Rattle.words.specs.Words.{taken, builtOf}
 use Rattle.header.specs.Header.{headerOf}
 use Rattle.records.specs.declared.Record.{Record}
-use Rattle.records.specs.Records.{identityOk, storeOk, ctrlOk, agreesWith, hostFields, ctrlFields, fieldsFor}
+use Rattle.records.specs.Records.{identityOk, storeOk, controllerOk, agreesWith, hostFields, controllerFields, fieldsFor}
 use Rattle.serving.specs.Serving.{windowOf, pageBytes}
 use Rattle.verdicts.specs.Verdicts.{candidateOk, fieldBad, lastAfter, commandAnswer}
-use Rattle.controller.specs.Controller.{World, world, candidate, pageOf, hostCaptured, before, sentOf, afterwards, answered, commandOf}
+use Rattle.controller.specs.Controller.{World, world, candidateOf, pageOf, hostCaptured, before, sentOf, afterwards, answered, commandOf}
 
 -- ---- the world of the rows
 
 -- DA4S, ETDAS and MCDAS as given; extended data and telemetry on
 abbrev capable : Bool → Bool → Bool → Caps
-capable da4s etdas mcdas = record { ext = true; tel = true; da4s = da4s; etdas = etdas; mcdas = mcdas }
+capable da4s etdas mcdas = record { extended = true; telemetry = true; da4s = da4s; etdas = etdas; mcdas = mcdas }
 
 -- a record with these last blocks and this generation on 07h, and nothing on 08h
-abbrev drive : Caps → List ℕ → ℕ → Record
-drive caps last generation = record {
+abbrev own : Caps → List ℕ → ℕ → Record
+own caps last generation = record {
   caps = caps;
-  identity = record { oui = 0x123456; hostscope = 1; ctrlscope = 1 };
+  identity = record { oui = 0x123456; hostscope = 1; controllerscope = 1 };
   host = record { last = last; generation = generation; reason = zeros 128 };
-  ctrl = record { last = zeros 4; generation = 0; tcda = 0; notice = false; reason = zeros 128 };
+  controller = record { last = zeros 4; generation = 0; tcda = 0; notice = false; reason = zeros 128 };
 }
 
 -- five blocks, block i filled with i
@@ -39,7 +39,7 @@ blocks = replicate 512 1 ++ (replicate 512 2 ++ (replicate 512 3 ++ (replicate 5
 
 -- host page (2,2,5,0), DA4S 0, size 3,072
 abbrev hostWorld : World
-hostWorld = world (drive (capable false false false) (2 ∷ 2 ∷ 5 ∷ 0 ∷ []) 0) blocks []
+hostWorld = world (own (capable false false false) (2 ∷ 2 ∷ 5 ∷ 0 ∷ []) 0) blocks []
 
 -- a first word and an offset
 abbrev words : ℕ → ℕ → Words
@@ -63,15 +63,15 @@ pub data Row : Type 0 where
 -- what a row says
 abbrev pub Says : Row → Type 0
 Says (reads cdw10 offset answer buf) =
-    (commandOf hostWorld (candidate [] [] []) (words cdw10 offset) (replicate 1024 9) .answer ≡ answer)
-    × (commandOf hostWorld (candidate [] [] []) (words cdw10 offset) (replicate 1024 9) .buf ≡ buf)
+    (commandOf hostWorld (candidateOf [] [] []) (words cdw10 offset) (replicate 1024 9) .answer ≡ answer)
+    × (commandOf hostWorld (candidateOf [] [] []) (words cdw10 offset) (replicate 1024 9) .buf ≡ buf)
 Says (counts old new) =
-    commandOf (world (drive (capable false false false) (zeros 4) old) [] []) (candidate (zeros 4) [] (zeros 128)) (words 0x007F8107 0) (replicate 512 9)
-    .world .drive .host .generation
+    commandOf (world (own (capable false false false) (zeros 4) old) [] []) (candidateOf (zeros 4) [] (zeros 128)) (words 0x007F8107 0) (replicate 512 9)
+    .world .own .host .generation
     ≡ new
 Says (stores caps mcda last stored) = trimOf caps mcda last ≡ stored
 Says (creates caps cdw10 answer) =
-    commandOf (world (drive caps (zeros 4) 0) [] []) (candidate (2 ∷ 2 ∷ 5 ∷ 9 ∷ []) [] []) (words cdw10 0) [] .answer ≡ answer
+    commandOf (world (own caps (zeros 4) 0) [] []) (candidateOf (2 ∷ 2 ∷ 5 ∷ 9 ∷ []) [] []) (words cdw10 0) [] .answer ≡ answer
 Says (firstWord create mcda cdw10) = builtOf hostPage create mcda true 0 1 .words .cdw10 ≡ cdw10
 
 -- what all rows of a list say
@@ -96,6 +96,6 @@ rows =
 
 pub rows-hold : All rows
 unfolding
-    holds putAt lastOk greatestOf blocksOf sizeOf topOf trimmedTo trimOf taken builtOf headerOf identityOk storeOk ctrlOk agreesWith hostFields ctrlFields fieldsFor
+    holds putAt lastOk greatestOf blocksOf sizeOf topOf trimmedTo trimOf taken builtOf headerOf identityOk storeOk controllerOk agreesWith hostFields controllerFields fieldsFor
     windowOf pageBytes candidateOk fieldBad lastAfter commandAnswer pageOf hostCaptured before sentOf afterwards answered commandOf
 rows-hold = ((refl, refl), ((refl, refl), ((refl, refl), ((refl, refl), ((refl, refl), (refl, (refl, (refl, (refl, (refl, (refl, tt)))))))))))

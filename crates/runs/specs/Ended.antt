@@ -11,11 +11,11 @@ use native.Mathlib.Nat.{add-mul, mul-add, mul-le-mul-left, mul-le-mul-right, div
 use lib.ListN.{length}
 use lib.Dec.{leb, eqb}
 use borrow.Author.Tests.{le-leb, eq-eqb}
-use Rattle.basics.specs.Choice.{pick, pick-cases, larger-left, larger-right, firstThat}
-use Rattle.basics.specs.Tests.{holds, clash}
+use Rattle.choices.specs.Choice.{pick, pick-cases, larger-left, larger-right, firstThat}
+use Rattle.choices.specs.Tests.{holds, clash}
 use Rattle.answers.specs.Answers.{success, badSetup, alreadyEnded, doesNotFit}
-use Rattle.parts.specs.Parts.{zeros}
-use Rattle.pages.specs.Pages.{ctrlPage, most4, lastOf}
+use Rattle.copies.specs.Parts.{zeros}
+use Rattle.pages.specs.Pages.{controllerPage, most4, lastOf}
 use Rattle.course.specs.declared.Plan.{Plan}
 use Rattle.course.specs.declared.Phase.{Phase}
 use Rattle.course.specs.declared.Phase.the-variants.{First, Chunk, Close, CloseRefused, Ack, Ended}
@@ -210,7 +210,7 @@ module _ (most : ℕ) (s : Collection) (h : Seen) (r : Reached most s) where
       let k = chunks-less (s .plan .chunk) at (areaLast (s .plan) (s .last)) (l .chunk-low) (i .1) in
       record { plan = r .plan; low = r .low; high = r .high; room = r .room; inside = refl; few = omega arith }
 
-  acknowledge : s .phase ≡ Close → s .plan .page ≡ ctrlPage → Leads most s h Acknowledge
+  acknowledge : s .phase ≡ Close → s .plan .page ≡ controllerPage → Leads most s h Acknowledge
   unfolding actOf
   acknowledge f e c =
       let a : acknowledging (s .plan) ≡ 1 = rw e in
@@ -311,7 +311,7 @@ reached-most most s r =
     omega arith
 
 one-more : (p : Plan) → acknowledging p ≤ 1
-one-more p = pick-cases (λ (x : ℕ). x ≤ 1) (eqb (p .page) ctrlPage) (λ e. omega arith) (λ e. omega arith)
+one-more p = pick-cases (λ (x : ℕ). x ≤ 1) (eqb (p .page) controllerPage) (λ e. omega arith) (λ e. omega arith)
 
 pub reached-ok : (s : Collection) → Reached most4 s → stateOk s ≡ true
 unfolding stateOk holds withinBy

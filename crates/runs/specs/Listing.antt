@@ -5,8 +5,8 @@ use Prim.Native.Nat.{ℕ}
 use mathlib.Core.Path.{_≡_, refl}
 use mathlib.Core.List.{List, [], _∷_}
 use mathlib.Core.Bool.{true, false}
-use Rattle.basics.specs.Tests.{holds}
-use Rattle.pages.specs.Pages.{ctrlPage}
+use Rattle.choices.specs.Tests.{holds}
+use Rattle.pages.specs.Pages.{controllerPage}
 use Rattle.words.specs.declared.Words.{Words}
 use Rattle.words.specs.Words.{taken, builtOf}
 use Rattle.course.specs.declared.Plan.{Plan}
@@ -16,13 +16,13 @@ use Rattle.course.specs.Course.{chunkBlocks, builtBy, awaitedBy, phaseAt, openi
 
 abbrev plan : Plan
 plan = record {
-  page = ctrlPage;
+  page = controllerPage;
   create = false;
   area = 1;
   chunk = 3;
   attempts = 1;
   room = 4096;
-  caps = record { ext = true; tel = true; da4s = false; etdas = false; mcdas = false };
+  caps = record { extended = true; telemetry = true; da4s = false; etdas = false; mcdas = false };
 }
 
 abbrev last : List ℕ

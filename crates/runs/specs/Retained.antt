@@ -8,11 +8,11 @@ use mathlib.Core.Bool.{Bool, true, false}
 use native.Mathlib.Omega.{arith}
 use lib.ListN.{length}
 use lib.Dec.{leb}
-use Rattle.basics.specs.Choice.{pick-cases}
-use Rattle.basics.specs.Tests.{clash}
+use Rattle.choices.specs.Choice.{pick-cases}
+use Rattle.choices.specs.Tests.{clash}
 use Rattle.answers.specs.Answers.{success}
-use Rattle.parts.specs.Parts.{zeros}
-use Rattle.pages.specs.Pages.{hostPage, ctrlPage, most4}
+use Rattle.copies.specs.Parts.{zeros}
+use Rattle.pages.specs.Pages.{hostPage, controllerPage, most4}
 use Rattle.words.specs.declared.Command.{Command}
 use Rattle.words.specs.declared.Words.{Words}
 use Rattle.words.specs.Words.{readOf}
@@ -121,7 +121,7 @@ at-no-ack at b = pick-cases (λ (f : Phase). ackBy f ≡ false) (leb at b) (λ e
 record Gives (s : Collection) (x : Stepped) (w : Words) : Type 0 where
   awaits : w ≡ awaitedOf (x .state)
   later : laterBy (x .state .phase) ≡ true
-  ack : ackBy (x .state .phase) ≡ true → s .plan .page ≡ ctrlPage
+  ack : ackBy (x .state .phase) ≡ true → s .plan .page ≡ controllerPage
 
 sends : {v w : Words} → Send v ≡ Send w → w ≡ v
 sends q = cc

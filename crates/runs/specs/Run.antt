@@ -4,9 +4,9 @@ use Prim.Native.Nat.{ℕ, _+_, _-_, _/_}
 use mathlib.Core.List.{List, [], _∷_, _++_}
 use mathlib.Core.Bool.{Bool}
 use lib.Dec.{eqb}
-use Rattle.basics.specs.Choice.{pick, larger}
+use Rattle.choices.specs.Choice.{pick, larger}
 use Rattle.answers.specs.Answers.{doesNotFit}
-use Rattle.pages.specs.Pages.{ctrlPage}
+use Rattle.pages.specs.Pages.{controllerPage}
 use Rattle.words.specs.declared.Words.{Words}
 use Rattle.course.specs.declared.Plan.{Plan}
 use Rattle.course.specs.Course.{areaLast}
@@ -63,7 +63,7 @@ mostChunks s (k ∷ ks) = larger (chunksOf (s .plan) (s .last)) (mostChunks (ste
 
 -- the acknowledgement: one command more on 08h
 abbrev pub acknowledging : Plan → ℕ
-acknowledging p = pick (eqb (p .page) ctrlPage) 1 0
+acknowledging p = pick (eqb (p .page) controllerPage) 1 0
 
 -- how many of the completions fit the awaited command, that is, are not answered 15
 unfoldable pub fitting : Collection → List Completion → ℕ

@@ -2,4 +2,4 @@
 // record (specs/Counted.antt), its states never get 13 and it ends (specs/Ended.antt), and which commands carry RAE and create
 // (specs/Retained.antt). The paper's listing from the definitions is specs/Listing.antt.
 //
-// It rests on basics, answers, pages, words, course and collection, and has no code of its own.
+// It rests on choices, answers, pages, words, course and collection, and has no code of its own.

@@ -7,8 +7,8 @@ use native.Mathlib.Omega.{arith}
 use native.Mathlib.Nat.{zero-add, le-trans, add-sub-cancel-left}
 use lib.ListN.{length, take, drop, length-take, length-drop, length-append}
 use lib.Seq.{take-take, take-append-le, drop-append-add, length-take-le}
-use Rattle.parts.specs.Parts.{zeros, length-zeros, putAt, put-next}
-use Rattle.parts.specs.Lists.{take-append, drop-append, drop-take, take-cut, drop-cut, take-zeros}
+use Rattle.copies.specs.Parts.{zeros, length-zeros, putAt, put-next}
+use Rattle.copies.specs.Lists.{take-append, drop-append, drop-take, take-cut, drop-cut, take-zeros}
 use Rattle.serving.specs.Serving.{lesserOf, windowOf, pageBytes}
 
 -- n of h from a on, k of s from b on, and z zeros

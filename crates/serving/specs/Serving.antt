@@ -9,9 +9,9 @@ use lib.ListN.{length, take, drop, length-take, length-append}
 use lib.Seq.{take-at}
 use lib.Dec.{leb}
 use borrow.Author.Tests.{le-leb, leb-true}
-use Rattle.basics.specs.Choice.{pick, pick-cases}
-use Rattle.basics.specs.Tests.{and-left, and-right}
-use Rattle.parts.specs.Parts.{zeros, length-zeros}
+use Rattle.choices.specs.Choice.{pick, pick-cases}
+use Rattle.choices.specs.Tests.{and-left, and-right}
+use Rattle.copies.specs.Parts.{zeros, length-zeros}
 use Rattle.pages.specs.Pages.{block}
 
 -- the lesser of two numbers, shut, so that a caller reads its bounds

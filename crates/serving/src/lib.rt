@@ -1,6 +1,6 @@
 // A part of a page put into a transfer buffer: from its header, from its store, and zeros past its end.
 //
-// It rests on basics, parts and pages. It promises that the buffer's front is the page's bytes from the offset on and that the rest of
+// It rests on choices, copies and pages. It promises that the buffer's front is the page's bytes from the offset on and that the rest of
 // the buffer stays (specs/Serving.antt). Bytes move in three straight runs, and no more of the store is touched than is asked for.
 ghost use mathlib.Core.Path.{_≡_};
 ghost use mathlib.Core.List.{_++_};
@@ -29,9 +29,9 @@ fn put_runs(
     requires { ⌜ (a + n ≤ length (now header)) × (b + k ≤ length (now store)) × (n + k + z ≤ length (now buf)) ⌝ }
     ensures { λ _. ⌜ now (buf .exit) ≡ runsOf (now (header .entry)) a n (now (store .entry)) b k z ++ drop (n + k + z) (now (buf .entry)) ⌝ }
 {
-    parts::put(&header[a..a + n], buf, 0);
-    parts::put(&store[b..b + k], buf, n);
-    parts::put_zeros(z, buf, n + k);
+    copies::put(&header[a..a + n], buf, 0);
+    copies::put(&store[b..b + k], buf, n);
+    copies::put_zeros(z, buf, n + k);
 }
 
 fn put_window(header: &[u8], store: &[u8], size: usize, offset: usize, bytes: usize, buf: &mut [u8])

@@ -8,8 +8,8 @@ use native.Mathlib.Omega.{arith}
 use lib.ListN.{getD}
 use lib.Dec.{ltb, leb, eqb}
 use borrow.Author.Tests.{leb-true, ltb-true, ltb-false, eqb-true, le-ltb, lt-ltb, not-false}
-use Rattle.basics.specs.Choice.{pick}
-use Rattle.basics.specs.Tests.{each, and-left, and-right, or-cases, clash}
+use Rattle.choices.specs.Choice.{pick}
+use Rattle.choices.specs.Tests.{each, and-left, and-right, or-cases, clash}
 use Rattle.answers.specs.Answers.{success, invalidField, shortBuffer, disagree, brokenCandidate}
 use Rattle.pages.specs.Pages.{telemetryPage, block, most4, lastOf, sizeOf, topOf}
 use Rattle.pages.specs.Trimmed.{InOrder, last-most}
@@ -64,9 +64,9 @@ sound false fine e h = clash h refl
 -- ---- a command
 
 pub record Accepted (r : Record) (c : Command) (a : List ℕ) (lent : Lent) : Type 0 where
-  pub agrees : agreesWith r (lent .host) (lent .ctrl) ≡ true
+  pub agrees : agreesWith r (lent .host) (lent .controller) ≡ true
   pub served : telemetryPage (c .page) ≡ true
-  pub telemetry : r .caps .tel ≡ true
+  pub telemetry : r .caps .telemetry ≡ true
   pub valid : fieldBad (r .caps) c ≡ false
   pub candidate : c .create ≡ true → Whole (lastOf (topOf (r .caps) (c .mcda)) a) a (lent .bytes) (lent .reason) (lent .host)
   pub near : c .offset ≤ sizeOf (r .caps) (lastAfter r c a)
@@ -81,11 +81,11 @@ accepted r c a lent e =
     let four = passed _ 4 _ (three .1) in
     let five = passed _ 0 _ (four .1) in
     let six = passed _ 2 _ (five .1) in
-    let asked : telemetryPage (c .page) && r .caps .tel ≡ true = not-false _ (two .0) in
+    let asked : telemetryPage (c .page) && r .caps .telemetry ≡ true = not-false _ (two .0) in
     record {
       agrees = not-false _ (one .0);
-      served = and-left (telemetryPage (c .page)) (r .caps .tel) asked;
-      telemetry = and-right (telemetryPage (c .page)) (r .caps .tel) asked;
+      served = and-left (telemetryPage (c .page)) (r .caps .telemetry) asked;
+      telemetry = and-right (telemetryPage (c .page)) (r .caps .telemetry) asked;
       valid = three .0;
       candidate = λ h. candidate-whole _ _ _ _ _ (sound (c .create) _ (four .0) h);
       near = ltb-false _ _ (five .0);
@@ -106,9 +106,9 @@ both a b p q = rw (p, q)
 
 -- a command that nothing speaks against but its offset
 pub record Fair (r : Record) (c : Command) (a : List ℕ) (lent : Lent) : Type 0 where
-  pub agrees : agreesWith r (lent .host) (lent .ctrl) ≡ true
+  pub agrees : agreesWith r (lent .host) (lent .controller) ≡ true
   pub served : telemetryPage (c .page) ≡ true
-  pub telemetry : r .caps .tel ≡ true
+  pub telemetry : r .caps .telemetry ≡ true
   pub valid : fieldBad (r .caps) c ≡ false
   pub candidate : c .create && not (candidateOk (lastOf (topOf (r .caps) (c .mcda)) a) a (lent .bytes) (lent .reason) (lent .host)) ≡ false
   pub room : c .bytes ≤ lent .buf
@@ -133,7 +133,7 @@ not-this false n m h = refl
 
 -- without 4 record and stores agree
 pub unless-disagree : (r : Record) (c : Command) (a : List ℕ) (lent : Lent) → (commandAnswer r c a lent ≡ disagree → ⊥)
-    → agreesWith r (lent .host) (lent .ctrl) ≡ true
+    → agreesWith r (lent .host) (lent .controller) ≡ true
 unfolding commandAnswer
 unless-disagree r c a lent n = not-false _ (not-this _ _ _ n)
 
@@ -150,8 +150,8 @@ last-three {d} {u} {i} b y s p q r = rw (p, q, r) (by b y s)
     by false false true m n = absurd (m refl)
     by false false false m n = (refl, λ e. refl)
 
-pub spared : (r : Record) (c : Command) (a : List ℕ) (lent : Lent) → agreesWith r (lent .host) (lent .ctrl) ≡ true → telemetryPage (c .page) ≡ true
-    → r .caps .tel ≡ true → fieldBad (r .caps) c ≡ false
+pub spared : (r : Record) (c : Command) (a : List ℕ) (lent : Lent) → agreesWith r (lent .host) (lent .controller) ≡ true → telemetryPage (c .page) ≡ true
+    → r .caps .telemetry ≡ true → fieldBad (r .caps) c ≡ false
     → (commandAnswer r c a lent ≡ shortBuffer → ⊥) → (commandAnswer r c a lent ≡ brokenCandidate → ⊥)
     → (c .create && not (candidateOk (lastOf (topOf (r .caps) (c .mcda)) a) a (lent .bytes) (lent .reason) (lent .host)) ≡ false)
     × (c .offset ≤ sizeOf (r .caps) (lastAfter r c a) → c .bytes ≤ lent .buf)
@@ -163,8 +163,8 @@ spared r c a lent g s t v m n =
 -- ---- a capture on 08h
 
 pub record Captures (r : Record) (a : List ℕ) (lent : Lent) : Type 0 where
-  pub agrees : agreesWith r (lent .host) (lent .ctrl) ≡ true
-  pub candidate : Whole (lastOf (topOf (r .caps) 0) a) a (lent .bytes) (lent .reason) (lent .ctrl)
+  pub agrees : agreesWith r (lent .host) (lent .controller) ≡ true
+  pub candidate : Whole (lastOf (topOf (r .caps) 0) a) a (lent .bytes) (lent .reason) (lent .controller)
   pub some : 0 < getD a 2 0
 
 pub captures : (r : Record) (a : List ℕ) (lent : Lent) → captureAnswer r a lent ≡ success → Captures r a lent
@@ -176,5 +176,5 @@ captures r a lent e =
     record {
       agrees = not-false _ (one .0);
       candidate = candidate-whole _ _ _ _ _ (and-left _ (ltb 0 (getD a 2 0)) fine);
-      some = ltb-true _ _ (and-right (candidateOk (lastOf (topOf (r .caps) 0) a) a (lent .bytes) (lent .reason) (lent .ctrl)) _ fine);
+      some = ltb-true _ _ (and-right (candidateOk (lastOf (topOf (r .caps) 0) a) a (lent .bytes) (lent .reason) (lent .controller)) _ fine);
     }

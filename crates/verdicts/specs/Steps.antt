@@ -16,11 +16,11 @@ pub command-is : (r : Record) (c : Command) (a : List ℕ) (lent : Lent) {m kept
     → m ≡ topOf (r .caps) (c .mcda)
     → kept ≡ lastOf m a
     → last ≡ lastAfter r c a
-    → g ≡ agreesWith r (lent .host) (lent .ctrl)
+    → g ≡ agreesWith r (lent .host) (lent .controller)
     → f ≡ fieldBad (r .caps) c
     → k ≡ candidateOk kept a (lent .bytes) (lent .reason) (lent .host)
     → s ≡ sizeOf (r .caps) last
-    → x ≡ commandOrder (not g) (not (telemetryPage (c .page) && r .caps .tel)) f (c .create && not k) (ltb s (c .offset)) (ltb (lent .buf) (c .bytes))
+    → x ≡ commandOrder (not g) (not (telemetryPage (c .page) && r .caps .telemetry)) f (c .create && not k) (ltb s (c .offset)) (ltb (lent .buf) (c .bytes))
     → x ≡ commandAnswer r c a lent
 unfolding commandAnswer
 command-is r c a lent em ek el eg ef ec es ex = ex ∙ rw (eg, ef, ec, ek, em, es, el)

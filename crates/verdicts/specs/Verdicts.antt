@@ -5,8 +5,8 @@ use mathlib.Core.List.{List, [], _∷_}
 use mathlib.Core.Bool.{Bool, not, _&&_, _||_}
 use lib.ListN.{getD}
 use lib.Dec.{ltb, leb, eqb}
-use Rattle.basics.specs.Choice.{pick, firstThat}
-use Rattle.basics.specs.Tests.{holds}
+use Rattle.choices.specs.Choice.{pick, firstThat}
+use Rattle.choices.specs.Tests.{holds}
 use Rattle.answers.specs.Answers.{success, invalidField, invalidLogPage, shortBuffer, disagree, brokenCandidate}
 use Rattle.pages.specs.declared.Caps.{Caps}
 use Rattle.pages.specs.Pages.{hostPage, telemetryPage, block, most3, most4, lastOf, sizeOf, topOf, trimOf}
@@ -52,20 +52,20 @@ unfoldable pub fieldBad : Caps → Command → Bool
 fieldBad caps c =
     c .indexed
     || not (eqb (c .bytes % block) 0)
-    || not (caps .ext) && not (eqb (c .offset) 0)
+    || not (caps .extended) && not (eqb (c .offset) 0)
     || not (eqb (c .offset % block) 0)
     || c .create && caps .mcdas && leb 5 (c .mcda)
 
 -- the last blocks of the page asked for, after the command's capture if it makes one
 unfoldable pub lastAfter : Record → Command → List ℕ → List ℕ
-lastAfter r c a = pick (eqb (c .page) hostPage) (pick (c .create) (trimOf (r .caps) (c .mcda) a) (r .host .last)) (r .ctrl .last)
+lastAfter r c a = pick (eqb (c .page) hostPage) (pick (c .create) (trimOf (r .caps) (c .mcda) a) (r .host .last)) (r .controller .last)
 
 -- ---- the answers
 
 -- to a command with the candidate's last blocks a
 unfoldable pub commandAnswer : Record → Command → List ℕ → Lent → ℕ
 commandAnswer r c a lent =
-    commandOrder (not (agreesWith r (lent .host) (lent .ctrl))) (not (telemetryPage (c .page) && r .caps .tel)) (fieldBad (r .caps) c)
+    commandOrder (not (agreesWith r (lent .host) (lent .controller))) (not (telemetryPage (c .page) && r .caps .telemetry)) (fieldBad (r .caps) c)
     (c .create && not (candidateOk (lastOf (topOf (r .caps) (c .mcda)) a) a (lent .bytes) (lent .reason) (lent .host)))
     (ltb (sizeOf (r .caps) (lastAfter r c a)) (c .offset)) (ltb (lent .buf) (c .bytes))
 
@@ -73,7 +73,7 @@ commandAnswer r c a lent =
 unfoldable pub captureAnswer : Record → List ℕ → Lent → ℕ
 captureAnswer r a lent =
     firstThat
-    ((not (agreesWith r (lent .host) (lent .ctrl)), disagree)
-    ∷ (not (candidateOk (lastOf (topOf (r .caps) 0) a) a (lent .bytes) (lent .reason) (lent .ctrl) && ltb 0 (getD a 2 0)), brokenCandidate)
+    ((not (agreesWith r (lent .host) (lent .controller)), disagree)
+    ∷ (not (candidateOk (lastOf (topOf (r .caps) 0) a) a (lent .bytes) (lent .reason) (lent .controller) && ltb 0 (getD a 2 0)), brokenCandidate)
     ∷ [])
     success

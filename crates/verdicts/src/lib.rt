@@ -1,6 +1,6 @@
 // Which answer a command or a capture gets: decided from numbers alone, before anything is written.
 //
-// It rests on basics, answers, pages, words and records. It promises that the answers stand in document 01's order
+// It rests on choices, answers, pages, words and records. It promises that the answers stand in document 01's order
 // (specs/Verdicts.antt), and says what an answer of 0 tells of the numbers (specs/Accepted.antt), on which the writing rests.
 use pages::Caps;
 use records::Record;
@@ -11,7 +11,7 @@ ghost use Rattle.verdicts.specs.Verdicts.{commandOrder, candidateOk, fie
 // The bytes of what is lent: both stores, the candidate's bytes and its reason, and the transfer buffer.
 pub struct Lent {
     pub host: usize,
-    pub ctrl: usize,
+    pub controller: usize,
     pub bytes: usize,
     pub reason: usize,
     pub buf: usize,
@@ -36,7 +36,7 @@ fn field_bad(caps: Caps, c: Command) -> bool
 {
     c.indexed
         | (c.bytes % 512 != 0)
-        | (!caps.ext & (c.offset != 0))
+        | (!caps.extended & (c.offset != 0))
         | (c.offset % 512 != 0)
         | (c.create & caps.mcdas & (5 <= c.mcda))
 }
@@ -47,14 +47,14 @@ fn last_after(r: Record, c: Command, a: [u32; 4]) -> [u32; 4]
 {
     let caps = r.caps;
     let host = r.host;
-    let ctrl = r.ctrl;
+    let controller = r.controller;
     let host_last = host.last;
-    let ctrl_last = ctrl.last;
+    let controller_last = controller.last;
     let captured = pages::trim(caps, c.mcda as u32, a);
-    basics::pick_four(
+    choices::pick_four(
         c.page == pages::HOST,
-        basics::pick_four(c.create, captured, host_last),
-        ctrl_last,
+        choices::pick_four(c.create, captured, host_last),
+        controller_last,
     )
 }
 
@@ -97,8 +97,8 @@ pub fn on_command(r: Record, c: Command, a: [u32; 4], lent: Lent) -> u8
     let kept = pages::last_of(pages::top(caps, c.mcda as u32), a);
     let last = last_after(r, c, a);
     first(
-        !records::agrees(r, lent.host, lent.ctrl),
-        !(((c.page == pages::HOST) | (c.page == pages::CTRL)) & caps.tel),
+        !records::agrees(r, lent.host, lent.controller),
+        !(((c.page == pages::HOST) | (c.page == pages::CONTROLLER)) & caps.telemetry),
         field_bad(caps, c),
         c.create & !candidate_ok(kept, a, lent.bytes, lent.reason, lent.host),
         pages::size(caps, last) < c.offset,
@@ -113,9 +113,9 @@ pub fn on_capture(r: Record, a: [u32; 4], lent: Lent) -> u8
     let caps = r.caps;
     let kept = pages::last_of(pages::top(caps, 0), a);
     let a3 = a[2];
-    let fine = candidate_ok(kept, a, lent.bytes, lent.reason, lent.ctrl);
+    let fine = candidate_ok(kept, a, lent.bytes, lent.reason, lent.controller);
     first(
-        !records::agrees(r, lent.host, lent.ctrl),
+        !records::agrees(r, lent.host, lent.controller),
         false,
         false,
         !(fine & (0 < a3)),

@@ -6,8 +6,8 @@ use mathlib.Core.Bool.{Bool, true, false, _&&_}
 use native.Mathlib.Omega.{arith}
 use lib.Dec.{eqb}
 use borrow.Author.Tests.{leb-true, eqb-true}
-use Rattle.basics.specs.Choice.{pick}
-use Rattle.basics.specs.Tests.{each, or-cases, clash}
+use Rattle.choices.specs.Choice.{pick}
+use Rattle.choices.specs.Tests.{each, or-cases, clash}
 use Rattle.answers.specs.Answers.{success, badSetup}
 use Rattle.pages.specs.Pages.{most4}
 use Rattle.words.specs.declared.Words.{Words}
@@ -101,24 +101,24 @@ created page false h = and-no (eqb page 7)
     and-no true = refl
     and-no false = refl
 
-length-back : (ext : Bool) (w blocks : ℕ) → 1 ≤ blocks → blocks ≤ 8192 → (ext ≡ false → blocks ≤ 32)
+length-back : (extended : Bool) (w blocks : ℕ) → 1 ≤ blocks → blocks ≤ 8192 → (extended ≡ false → blocks ≤ 32)
     → w / 65536 % 65536 ≡ (128 * blocks - 1) % 65536
     → w / 65536 % 4096 ≡ (128 * blocks - 1) % 65536 % 4096
-    → pick ext (4 * (w / 65536 % 65536 + 65536 * ((128 * blocks - 1) / 65536 % 65536) + 1)) (4 * (w / 65536 % 4096 + 1)) ≡ 512 * blocks
+    → pick extended (4 * (w / 65536 % 65536 + 65536 * ((128 * blocks - 1) / 65536 % 65536) + 1)) (4 * (w / 65536 % 4096 + 1)) ≡ 512 * blocks
 length-back true w blocks p q h e f = omega arith
 length-back false w blocks p q h e f = let s = h refl in omega arith
 
-packed-back : (ext : Bool) (page : ℕ) (create : Bool) (mcda : ℕ) (rae : Bool) (offset blocks : ℕ) → page ≤ 255
-    → (create ≡ true → page ≡ 7) → Bounds mcda offset blocks → (ext ≡ false → blocks ≤ 32)
-    → readOf ext (packedOf page create mcda rae offset blocks) ≡ meant page create mcda rae offset blocks
-packed-back ext page create mcda rae offset blocks small host b few =
+packed-back : (extended : Bool) (page : ℕ) (create : Bool) (mcda : ℕ) (rae : Bool) (offset blocks : ℕ) → page ≤ 255
+    → (create ≡ true → page ≡ 7) → Bounds mcda offset blocks → (extended ≡ false → blocks ≤ 32)
+    → readOf extended (packedOf page create mcda rae offset blocks) ≡ meant page create mcda rae offset blocks
+packed-back extended page create mcda rae offset blocks small host b few =
     let w = packedOf page create mcda rae offset blocks .cdw10 in
     let k : Apart w page (bit create) mcda (bit rae) ((128 * blocks - 1) % 65536) =
     apart w page (bit create) mcda (bit rae) ((128 * blocks - 1) % 65536) small (bit-small create) (omega arith) (bit-small rae) (omega arith)
     (omega (arith, bit-scaled create 256, bit-scaled rae 32768)) in
     let made : eqb (w % 256) 7 && eqb (w / 256 % 2) 1 ≡ create = rw (k .page-back, k .create-back) (created page create host) in
     let kept : eqb (w / 32768 % 2) 1 ≡ rae = rw (k .rae-back) (bit-back rae) in
-    let long = length-back ext w blocks (b .some) (b .most) few (k .long-back) (k .short-back) in
+    let long = length-back extended w blocks (b .some) (b .most) few (k .long-back) (k .short-back) in
     let far : 512 * offset + 4294967296 * 0 ≡ 512 * offset = omega arith in
     cc (k .page-back, k .mcda-back)
 
@@ -137,16 +137,16 @@ create-host page create mcda offset blocks e c =
     (λ p. clash (each _ e 1) (rw (c, p)))
 
 -- Arguments that are taken are answered 0, and their words are read back to them; with extended data off, up to 32 blocks.
-pub built-back : (ext : Bool) (page : ℕ) (create : Bool) (mcda : ℕ) (rae : Bool) (offset blocks : ℕ)
+pub built-back : (extended : Bool) (page : ℕ) (create : Bool) (mcda : ℕ) (rae : Bool) (offset blocks : ℕ)
     → taken page create mcda offset blocks ≡ true
-    → (ext ≡ false → blocks ≤ 32)
+    → (extended ≡ false → blocks ≤ 32)
     → (builtOf page create mcda rae offset blocks .answer ≡ success)
-    × (readOf ext (builtOf page create mcda rae offset blocks .words) ≡ meant page create mcda rae offset blocks)
+    × (readOf extended (builtOf page create mcda rae offset blocks .words) ≡ meant page create mcda rae offset blocks)
 unfolding builtOf
-built-back ext page create mcda rae offset blocks e few =
+built-back extended page create mcda rae offset blocks e few =
     let two = page-two page create mcda offset blocks e in
     rw e (
       refl,
-      packed-back ext page create mcda rae offset blocks (omega arith) (create-host page create mcda offset blocks e)
+      packed-back extended page create mcda rae offset blocks (omega arith) (create-host page create mcda offset blocks e)
           (taken-bounds page create mcda offset blocks e) few,
     )

@@ -7,11 +7,11 @@ use Prim.Native.Nat.{ℕ, _+_, _-_, _*_, _/_, _%_}
 use mathlib.Core.List.{[], _∷_}
 use mathlib.Core.Bool.{Bool, not, _&&_, _||_}
 use lib.Dec.{leb, eqb}
-use Rattle.basics.specs.Choice.{pick}
-use Rattle.basics.specs.Numbers.{bits}
-use Rattle.basics.specs.Tests.{holds}
+use Rattle.choices.specs.Choice.{pick}
+use Rattle.choices.specs.Numbers.{bits}
+use Rattle.choices.specs.Tests.{holds}
 use Rattle.answers.specs.Answers.{success, badSetup}
-use Rattle.pages.specs.Pages.{hostPage, ctrlPage, telemetryPage, most4}
+use Rattle.pages.specs.Pages.{hostPage, controllerPage, telemetryPage, most4}
 use Rattle.words.specs.declared.Words.{Words}
 use Rattle.words.specs.declared.Command.{Command}
 use Rattle.words.specs.declared.Built.{Built}
@@ -36,12 +36,12 @@ offsetOf w = w .cdw12 + 4294967296 * w .cdw13
 
 -- what the words ask for
 abbrev pub readOf : Bool → Words → Command
-readOf ext w = record {
+readOf extended w = record {
   page = bits 7 0 (w .cdw10);
   create = eqb (bits 7 0 (w .cdw10)) hostPage && eqb (bits 8 8 (w .cdw10)) 1;
   mcda = bits 11 9 (w .cdw10);
   rae = eqb (bits 15 15 (w .cdw10)) 1;
-  bytes = pick ext (longBytes w) (shortBytes w);
+  bytes = pick extended (longBytes w) (shortBytes w);
   offset = offsetOf w;
   indexed = eqb (bits 23 23 (w .cdw14)) 1;
 }
@@ -58,7 +58,7 @@ unfoldable pub taken : ℕ → Bool → ℕ → ℕ → ℕ → Bool
 taken page create mcda offset blocks =
     holds
     (telemetryPage page
-    ∷ not (create && eqb page ctrlPage)
+    ∷ not (create && eqb page controllerPage)
     ∷ leb mcda 4
     ∷ (create || eqb mcda 0)
     ∷ leb 1 blocks

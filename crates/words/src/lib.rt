@@ -1,10 +1,10 @@
 // The five command words of Get Log Page: read as the controller reads them, and built as the host sends them.
 //
-// It rests on basics, answers and pages. It promises that any five words are read to what specs/Words.antt says, that the builder gives the words of
+// It rests on choices, answers and pages. It promises that any five words are read to what specs/Words.antt says, that the builder gives the words of
 // its arguments or 13 with five zero words, and that what it builds is read back to the arguments (specs/Back.antt).
 ghost use mathlib.Core.Path.{_≡_};
 ghost use Prim.Native.Nat.{_+_, _-_, _*_, _/_, _%_, _≤_};
-ghost use Rattle.basics.specs.Choice.{pick};
+ghost use Rattle.choices.specs.Choice.{pick};
 ghost use Rattle.words.specs.Words.{longBytes, shortBytes, offsetOf, readOf, taken, packedOf, noWords, builtOf};
 ghost use Rattle.words.specs.Back.{Bounds};
 
@@ -56,15 +56,15 @@ fn offset_of(w: Words) -> usize
 }
 
 // What the words ask for, under extended data on or off. Reserved fields are not looked at.
-pub fn read(ext: bool, w: Words) -> Command
-    ensures { λ r. ⌜ r ≡ readOf ext w ⌝ }
+pub fn read(extended: bool, w: Words) -> Command
+    ensures { λ r. ⌜ r ≡ readOf extended w ⌝ }
 {
     Command {
         page: (w.cdw10 % 256) as u8,
         create: (w.cdw10 % 256 == 0x07) & (w.cdw10 / 256 % 2 == 1),
         mcda: (w.cdw10 / 512 % 8) as u8,
         rae: w.cdw10 / 32768 % 2 == 1,
-        bytes: basics::pick_usize(ext, long_bytes(w), short_bytes(w)),
+        bytes: choices::pick_usize(extended, long_bytes(w), short_bytes(w)),
         offset: offset_of(w),
         indexed: w.cdw14 / 8388608 % 2 == 1,
     }
@@ -73,8 +73,8 @@ pub fn read(ext: bool, w: Words) -> Command
 fn taken_args(page: u8, create: bool, mcda: u8, offset: u32, blocks: u32) -> bool
     ensures { λ r. ⌜ r ≡ taken page create mcda offset blocks ⌝ }
 {
-    ((page == pages::HOST) | (page == pages::CTRL))
-        & !(create & (page == pages::CTRL))
+    ((page == pages::HOST) | (page == pages::CONTROLLER))
+        & !(create & (page == pages::CONTROLLER))
         & (mcda <= 4)
         & (create | (mcda == 0))
         & (1 <= blocks)

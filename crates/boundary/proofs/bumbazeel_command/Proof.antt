@@ -1,7 +1,7 @@
 -- `boundary::bumbazeel_command` meets its contract: a damaged record is refused, a refused command writes no record, and a success writes the one that it leaves.
 -- Assumes nothing.
 use borrow.Author.Needs.{needs}
-use Rattle.controller.specs.Controller.{candidate}
+use Rattle.controller.specs.Controller.{candidateOf}
 use Rattle.boundary.specs.Boundary.{wordsOf}
 use Rattle.boundary.specs.Steps.{command-damaged, command-refused, command-done}
 use Rattle.boundary.proofs.bumbazeel_command.Statement.{statement}
@@ -14,8 +14,8 @@ returns : tie.Need-returns
 returns c =
     let back9 = c .before .before .before .before .before .before .before .before .before in
     let a = back9 .args in
-    command-damaged (a .drive .now) (a .host-store .now) (a .controller-store .now)
-    (candidate (a .last .now) (a .bytes .now) (a .reason .now)) (wordsOf (a .words .now)) (a .buffer .now)
+    command-damaged (a .own .now) (a .host-store .now) (a .controller-store .now)
+    (candidateOf (a .last .now) (a .bytes .now) (a .reason .now)) (wordsOf (a .words .now)) (a .buffer .now)
     (c .before .record-sound .ensures) (c .if1 .taken)
 
 read-record-requires : tie.Need-read-record-requires
@@ -42,8 +42,8 @@ returns-2 c =
     let back14 = back13 .before in
     let back22 = back14 .before .before .before .before .before .before .before .before in
     let a = back22 .args in
-    command-refused (a .drive .now) (a .host-store .now) (a .controller-store .now)
-    (candidate (a .last .now) (a .bytes .now) (a .reason .now)) (wordsOf (a .words .now)) (a .buffer .now) (back14 .record-sound .ensures)
+    command-refused (a .own .now) (a .host-store .now) (a .controller-store .now)
+    (candidateOf (a .last .now) (a .bytes .now) (a .reason .now)) (wordsOf (a .words .now)) (a .buffer .now) (back14 .record-sound .ensures)
     (back13 .if1 .left) (back11 .read-record .ensures) (back7 .words-of .ensures) (back5 .command .ensures) (c .if2 .taken)
 
 write-record-requires : tie.Need-write-record-requires
@@ -64,7 +64,7 @@ returns-3 c =
     let back16 = back15 .before in
     let back24 = back16 .before .before .before .before .before .before .before .before in
     let a = back24 .args in
-    command-done (a .drive .now) (a .host-store .now) (a .controller-store .now) (candidate (a .last .now) (a .bytes .now) (a .reason .now))
+    command-done (a .own .now) (a .host-store .now) (a .controller-store .now) (candidateOf (a .last .now) (a .bytes .now) (a .reason .now))
     (wordsOf (a .words .now)) (a .buffer .now) (back16 .record-sound .ensures) (back15 .if1 .left) (back13 .read-record .ensures)
     (back9 .words-of .ensures) (back7 .command .ensures) (c .before .before .if2 .left) (c .write-record .ensures)
 

@@ -2,8 +2,8 @@
 -- of specs/Steps.antt.
 -- Assumes nothing.
 use borrow.Author.Needs.{needs}
-use Rattle.controller.specs.Controller.{world, candidate}
-use Rattle.controller.specs.Steps.{create-host, command-is, command-accepted, refused-is, created-is, host-read-is, ctrl-read-is, create-lent}
+use Rattle.controller.specs.Controller.{world, candidateOf}
+use Rattle.controller.specs.Steps.{create-host, command-is, command-accepted, refused-is, created-is, host-read-is, controller-read-is, create-lent}
 use Rattle.controller.proofs.command.Statement.{statement}
 use Rattle.controller.proofs.command.Tie as tie
 
@@ -19,8 +19,8 @@ refused-requires c κs = search needs
 returns : tie.Need-returns
 returns c =
     let a = c .before .before .before .before .before .before .before .before .before .before .args in
-    command-is (world (a .r) (a .host .now) (a .ctrl .now)) (candidate (a .a) (a .bytes .now) (a .reason .now)) (a .words) (a .buf .now) (c .before .before .before .read .ensures) (c .before .before .on-command .ensures)
-    (refused-is (world (a .r) (a .host .now) (a .ctrl .now)) (candidate (a .a) (a .bytes .now) (a .reason .now)) (c .before .before .before .read .result) (a .buf .now) (c .before .before .on-command .result) (c .refused .result) (c .before .if1 .taken) (c .refused .ensures))
+    command-is (world (a .r) (a .host .now) (a .controller .now)) (candidateOf (a .a) (a .bytes .now) (a .reason .now)) (a .words) (a .buf .now) (c .before .before .before .read .ensures) (c .before .before .on-command .ensures)
+    (refused-is (world (a .r) (a .host .now) (a .controller .now)) (candidateOf (a .a) (a .bytes .now) (a .reason .now)) (c .before .before .before .read .result) (a .buf .now) (c .before .before .on-command .result) (c .refused .result) (c .before .if1 .taken) (c .refused .ensures))
 
 cast-mcda : tie.Need-cast-mcda
 cast-mcda c = search needs
@@ -34,8 +34,8 @@ last-of-requires c κs = search needs
 keep-requires : tie.Need-keep-requires
 keep-requires c κs =
     let a = c .before .before .before .before .before .before .before .before .before .before .before .before .before .before .args in
-    let g = command-accepted (world (a .r) (a .host .now) (a .ctrl .now)) (candidate (a .a) (a .bytes .now) (a .reason .now)) (a .buf .now) (c .before .before .before .before .before .before .before .read .result) (c .before .before .before .before .before .before .on-command .result) (c .before .before .before .before .before .before .on-command .ensures) (c .before .before .before .before .before .if1 .left) in
-    create-lent (world (a .r) (a .host .now) (a .ctrl .now)) (candidate (a .a) (a .bytes .now) (a .reason .now)) (c .before .before .before .before .before .before .before .read .result) (a .buf .now) g (c .before .before .before .before .if2 .taken) (c .before .before .top .ensures) (c .before .last-of .ensures)
+    let g = command-accepted (world (a .r) (a .host .now) (a .controller .now)) (candidateOf (a .a) (a .bytes .now) (a .reason .now)) (a .buf .now) (c .before .before .before .before .before .before .before .read .result) (c .before .before .before .before .before .before .on-command .result) (c .before .before .before .before .before .before .on-command .ensures) (c .before .before .before .before .before .if1 .left) in
+    create-lent (world (a .r) (a .host .now) (a .controller .now)) (candidateOf (a .a) (a .bytes .now) (a .reason .now)) (c .before .before .before .before .before .before .before .read .result) (a .buf .now) g (c .before .before .before .before .if2 .taken) (c .before .before .top .ensures) (c .before .last-of .ensures)
 
 trim-requires : tie.Need-trim-requires
 trim-requires c κs = search needs
@@ -62,10 +62,10 @@ returns-2 : tie.Need-returns-2
 returns-2 c =
     let a = c .before .before .before .before .before .before .before .before .before .before .before .before .before .before .before .before .before .before .before .before .before .before .before .before .before .before .args in
     let z = c .before .before .before .before .before .before .before .before .before .before .before .before .before .before .before .before .before .if1 .left in
-    let g = command-accepted (world (a .r) (a .host .now) (a .ctrl .now)) (candidate (a .a) (a .bytes .now) (a .reason .now)) (a .buf .now) (c .before .before .before .before .before .before .before .before .before .before .before .before .before .before .before .before .before .before .before .read .result) (c .before .before .before .before .before .before .before .before .before .before .before .before .before .before .before .before .before .before .on-command .result) (c .before .before .before .before .before .before .before .before .before .before .before .before .before .before .before .before .before .before .on-command .ensures) z in
-    command-is (world (a .r) (a .host .now) (a .ctrl .now)) (candidate (a .a) (a .bytes .now) (a .reason .now)) (a .words) (a .buf .now) (c .before .before .before .before .before .before .before .before .before .before .before .before .before .before .before .before .before .before .before .read .ensures) (c .before .before .before .before .before .before .before .before .before .before .before .before .before .before .before .before .before .before .on-command .ensures)
-    (created-is (world (a .r) (a .host .now) (a .ctrl .now)) (candidate (a .a) (a .bytes .now) (a .reason .now)) (c .before .before .before .before .before .before .before .before .before .before .before .before .before .before .before .before .before .before .before .read .result) (a .buf .now) (c .before .before .before .before .before .before .before .before .before .before .before .before .before .before .before .before .before .before .on-command .result) (c .plain .result) z g (c .before .before .before .before .before .before .before .before .before .before .before .before .before .before .before .before .if2 .taken)
-    (create-host (a .r .caps .ext) (a .words) (c .before .before .before .before .before .before .before .before .before .before .before .before .before .before .before .before .before .before .before .read .result) (c .before .before .before .before .before .before .before .before .before .before .before .before .before .before .before .before .before .before .before .read .ensures) (c .before .before .before .before .before .before .before .before .before .before .before .before .before .before .before .before .if2 .taken))
+    let g = command-accepted (world (a .r) (a .host .now) (a .controller .now)) (candidateOf (a .a) (a .bytes .now) (a .reason .now)) (a .buf .now) (c .before .before .before .before .before .before .before .before .before .before .before .before .before .before .before .before .before .before .before .read .result) (c .before .before .before .before .before .before .before .before .before .before .before .before .before .before .before .before .before .before .on-command .result) (c .before .before .before .before .before .before .before .before .before .before .before .before .before .before .before .before .before .before .on-command .ensures) z in
+    command-is (world (a .r) (a .host .now) (a .controller .now)) (candidateOf (a .a) (a .bytes .now) (a .reason .now)) (a .words) (a .buf .now) (c .before .before .before .before .before .before .before .before .before .before .before .before .before .before .before .before .before .before .before .read .ensures) (c .before .before .before .before .before .before .before .before .before .before .before .before .before .before .before .before .before .before .on-command .ensures)
+    (created-is (world (a .r) (a .host .now) (a .controller .now)) (candidateOf (a .a) (a .bytes .now) (a .reason .now)) (c .before .before .before .before .before .before .before .before .before .before .before .before .before .before .before .before .before .before .before .read .result) (a .buf .now) (c .before .before .before .before .before .before .before .before .before .before .before .before .before .before .before .before .before .before .on-command .result) (c .plain .result) z g (c .before .before .before .before .before .before .before .before .before .before .before .before .before .before .before .before .if2 .taken)
+    (create-host (a .r .caps .extended) (a .words) (c .before .before .before .before .before .before .before .before .before .before .before .before .before .before .before .before .before .before .before .read .result) (c .before .before .before .before .before .before .before .before .before .before .before .before .before .before .before .before .before .before .before .read .ensures) (c .before .before .before .before .before .before .before .before .before .before .before .before .before .before .before .before .if2 .taken))
     (c .before .before .before .before .before .before .before .before .before .before .before .before .before .before .top .ensures) (c .before .before .before .before .before .before .before .before .before .before .before .before .before .last-of .ensures) (c .before .before .before .before .before .before .before .before .before .before .before .keep .ensures) (c .before .before .before .before .before .before .before .before .trim .ensures) (c .before .before .before .before .before .before .before .reason-of .ensures) (c .before .before .before .before .before .before .host-taken .ensures)
     (c .before .before .before .send .ensures) (c .plain .ensures))
 
@@ -85,9 +85,9 @@ returns-3 : tie.Need-returns-3
 returns-3 c =
     let a = c .before .before .before .before .before .before .before .before .before .before .before .before .before .before .before .before .before .before .args in
     let z = c .before .before .before .before .before .before .before .before .before .if1 .left in
-    let g = command-accepted (world (a .r) (a .host .now) (a .ctrl .now)) (candidate (a .a) (a .bytes .now) (a .reason .now)) (a .buf .now) (c .before .before .before .before .before .before .before .before .before .before .before .read .result) (c .before .before .before .before .before .before .before .before .before .before .on-command .result) (c .before .before .before .before .before .before .before .before .before .before .on-command .ensures) z in
-    command-is (world (a .r) (a .host .now) (a .ctrl .now)) (candidate (a .a) (a .bytes .now) (a .reason .now)) (a .words) (a .buf .now) (c .before .before .before .before .before .before .before .before .before .before .before .read .ensures) (c .before .before .before .before .before .before .before .before .before .before .on-command .ensures)
-    (host-read-is (world (a .r) (a .host .now) (a .ctrl .now)) (candidate (a .a) (a .bytes .now) (a .reason .now)) (c .before .before .before .before .before .before .before .before .before .before .before .read .result) (a .buf .now) _ (c .before .before .before .before .before .before .before .before .before .before .on-command .result) (c .plain2 .result) z g (c .before .before .before .before .before .before .before .before .if2 .left) (c .before .before .before .before .before .before .if3 .taken)
+    let g = command-accepted (world (a .r) (a .host .now) (a .controller .now)) (candidateOf (a .a) (a .bytes .now) (a .reason .now)) (a .buf .now) (c .before .before .before .before .before .before .before .before .before .before .before .read .result) (c .before .before .before .before .before .before .before .before .before .before .on-command .result) (c .before .before .before .before .before .before .before .before .before .before .on-command .ensures) z in
+    command-is (world (a .r) (a .host .now) (a .controller .now)) (candidateOf (a .a) (a .bytes .now) (a .reason .now)) (a .words) (a .buf .now) (c .before .before .before .before .before .before .before .before .before .before .before .read .ensures) (c .before .before .before .before .before .before .before .before .before .before .on-command .ensures)
+    (host-read-is (world (a .r) (a .host .now) (a .controller .now)) (candidateOf (a .a) (a .bytes .now) (a .reason .now)) (c .before .before .before .before .before .before .before .before .before .before .before .read .result) (a .buf .now) _ (c .before .before .before .before .before .before .before .before .before .before .on-command .result) (c .plain2 .result) z g (c .before .before .before .before .before .before .before .before .if2 .left) (c .before .before .before .before .before .before .if3 .taken)
     (c .before .before .before .send2 .ensures) (c .plain2 .ensures))
 
 send-requires-3 : tie.Need-send-requires-3
@@ -109,9 +109,9 @@ returns-4 : tie.Need-returns-4
 returns-4 c =
     let a = c .before .before .before .before .before .before .before .before .before .before .before .before .before .before .before .before .before .before .before .args in
     let z = c .before .before .before .before .before .before .before .before .before .before .if1 .left in
-    let g = command-accepted (world (a .r) (a .host .now) (a .ctrl .now)) (candidate (a .a) (a .bytes .now) (a .reason .now)) (a .buf .now) (c .before .before .before .before .before .before .before .before .before .before .before .before .read .result) (c .before .before .before .before .before .before .before .before .before .before .before .on-command .result) (c .before .before .before .before .before .before .before .before .before .before .before .on-command .ensures) z in
-    command-is (world (a .r) (a .host .now) (a .ctrl .now)) (candidate (a .a) (a .bytes .now) (a .reason .now)) (a .words) (a .buf .now) (c .before .before .before .before .before .before .before .before .before .before .before .before .read .ensures) (c .before .before .before .before .before .before .before .before .before .before .before .on-command .ensures)
-    (ctrl-read-is (world (a .r) (a .host .now) (a .ctrl .now)) (candidate (a .a) (a .bytes .now) (a .reason .now)) (c .before .before .before .before .before .before .before .before .before .before .before .before .read .result) (a .buf .now) _ (c .before .before .before .before .before .before .before .before .before .before .before .on-command .result) (c .plain3 .result) z g (c .before .before .before .before .before .before .before .before .before .if2 .left) (c .before .before .before .before .before .before .before .if3 .left)
+    let g = command-accepted (world (a .r) (a .host .now) (a .controller .now)) (candidateOf (a .a) (a .bytes .now) (a .reason .now)) (a .buf .now) (c .before .before .before .before .before .before .before .before .before .before .before .before .read .result) (c .before .before .before .before .before .before .before .before .before .before .before .on-command .result) (c .before .before .before .before .before .before .before .before .before .before .before .on-command .ensures) z in
+    command-is (world (a .r) (a .host .now) (a .controller .now)) (candidateOf (a .a) (a .bytes .now) (a .reason .now)) (a .words) (a .buf .now) (c .before .before .before .before .before .before .before .before .before .before .before .before .read .ensures) (c .before .before .before .before .before .before .before .before .before .before .before .on-command .ensures)
+    (controller-read-is (world (a .r) (a .host .now) (a .controller .now)) (candidateOf (a .a) (a .bytes .now) (a .reason .now)) (c .before .before .before .before .before .before .before .before .before .before .before .before .read .result) (a .buf .now) _ (c .before .before .before .before .before .before .before .before .before .before .before .on-command .result) (c .plain3 .result) z g (c .before .before .before .before .before .before .before .before .before .if2 .left) (c .before .before .before .before .before .before .before .if3 .left)
     (c .before .before .before .before .before .send3 .ensures) (c .before .before .cleared .ensures) (c .before .pick-record .ensures) (c .plain3 .ensures))
 
 pub command-spec : {M : Type 1} → statement M

@@ -5,7 +5,7 @@ use Prim.Native.Nat.{ℕ}
 use native.Mathlib.Nat.{sub-zero}
 use lib.ListN.{take}
 use borrow.Author.Needs.{needs}
-use Rattle.parts.specs.Parts.{putAt}
+use Rattle.copies.specs.Parts.{putAt}
 use Rattle.controller.proofs.keep.Statement.{statement}
 use Rattle.controller.proofs.keep.Tie as tie
 

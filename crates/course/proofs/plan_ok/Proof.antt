@@ -1,7 +1,7 @@
 -- `course::plan_ok` meets its contract: the chain of tests is the row of tests, by computation.
 -- Assumes nothing.
 use mathlib.Core.Path.{refl}
-use Rattle.basics.specs.Tests.{holds}
+use Rattle.choices.specs.Tests.{holds}
 use Rattle.course.proofs.plan_ok.Statement.{statement}
 use Rattle.course.proofs.plan_ok.Tie as tie
 

@@ -1,7 +1,7 @@
 -- `header::fields_ok` meets its contract: the chain of tests is the row of tests.
 -- Assumes nothing.
 use borrow.Author.Needs.{needs}
-use Rattle.basics.specs.Tests.{holds}
+use Rattle.choices.specs.Tests.{holds}
 use Rattle.header.specs.Header.{fieldsOk}
 use Rattle.header.proofs.fields_ok.Statement.{statement}
 use Rattle.header.proofs.fields_ok.Tie as tie

@@ -4,7 +4,7 @@ use mathlib.Core.Path.{_≡_, _∙_}
 use native.Mathlib.Omega.{arith}
 use lib.ListN.{length}
 use borrow.Author.Needs.{needs}
-use Rattle.parts.specs.Parts.{put-end}
+use Rattle.copies.specs.Parts.{put-end}
 use Rattle.header.proofs.put_reason.Statement.{statement}
 use Rattle.header.proofs.put_reason.Tie as tie
 

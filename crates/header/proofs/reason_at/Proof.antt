@@ -4,7 +4,7 @@ use mathlib.Core.Path.{_≡_, _∙_}
 use native.Mathlib.Omega.{arith}
 use lib.ListN.{length, take, drop, length-take, length-drop}
 use borrow.Author.Needs.{needs}
-use Rattle.parts.specs.Parts.{zeros, put-whole}
+use Rattle.copies.specs.Parts.{zeros, put-whole}
 use Rattle.header.proofs.reason_at.Statement.{statement}
 use Rattle.header.proofs.reason_at.Tie as tie
 

@@ -4,7 +4,7 @@ use Prim.Native.Nat.{ℕ}
 use mathlib.Core.List.{List}
 use mathlib.Core.Path.{ap, _∙_}
 use borrow.Author.Needs.{needs}
-use Rattle.parts.specs.Parts.{putAt}
+use Rattle.copies.specs.Parts.{putAt}
 use Rattle.layouts.specs.Steps.{last-is}
 use Rattle.layouts.proofs.put_last.Statement.{statement}
 use Rattle.layouts.proofs.put_last.Tie as tie

@@ -23,8 +23,8 @@ element-copy-out-t16 c = search needs
 host-at-requires : tie.Need-host-at-requires
 host-at-requires c κs = search needs
 
-ctrl-at-requires : tie.Need-ctrl-at-requires
-ctrl-at-requires c κs = search needs
+controller-at-requires : tie.Need-controller-at-requires
+controller-at-requires c κs = search needs
 
 returns : tie.Need-returns
 unfolding recordAt
@@ -40,5 +40,5 @@ read-record-spec =
     element-copy-out-t8
     element-copy-out-t16
     host-at-requires
-    ctrl-at-requires
+    controller-at-requires
     returns)

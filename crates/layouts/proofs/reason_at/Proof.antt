@@ -6,7 +6,7 @@ use native.Mathlib.Nat.{add-sub-cancel-left}
 use native.Mathlib.Omega.{arith}
 use lib.ListN.{length, take, drop, length-take, length-drop}
 use borrow.Author.Needs.{needs}
-use Rattle.parts.specs.Parts.{zeros, putAt, put-whole}
+use Rattle.copies.specs.Parts.{zeros, putAt, put-whole}
 use Rattle.layouts.proofs.reason_at.Statement.{statement}
 use Rattle.layouts.proofs.reason_at.Tie as tie
 

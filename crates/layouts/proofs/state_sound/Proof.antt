@@ -1,7 +1,7 @@
 -- `layouts::state_sound` meets its contract: the chain of tests is the row of tests.
 -- Assumes nothing.
 use borrow.Author.Needs.{needs}
-use Rattle.basics.specs.Tests.{holds}
+use Rattle.choices.specs.Tests.{holds}
 use Rattle.layouts.specs.Layouts.{stateSound}
 use Rattle.layouts.proofs.state_sound.Statement.{statement}
 use Rattle.layouts.proofs.state_sound.Tie as tie

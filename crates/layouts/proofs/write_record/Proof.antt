@@ -57,9 +57,9 @@ returns c =
     let back19 = back16 .before .before .before in
     let start = back19 .before .before .before .before .before .before .before .before in
     let host = back4 .put-reason .ensures in
-    let ctrl = c .before .put-reason2 .ensures in
-    record-is (start .args .r) (host .1) (ctrl .1) (back19 .record-marks .ensures) (back16 .put .ensures) (back13 .put-word .ensures)
-    (back10 .put-last .ensures) (back7 .put-last2 .ensures) (host .0) (ctrl .0)
+    let controller = c .before .put-reason2 .ensures in
+    record-is (start .args .r) (host .1) (controller .1) (back19 .record-marks .ensures) (back16 .put .ensures) (back13 .put-word .ensures)
+    (back10 .put-last .ensures) (back7 .put-last2 .ensures) (host .0) (controller .0)
 
 pub write-record-spec : {M : Type 1} → statement M
 write-record-spec =

@@ -1,7 +1,7 @@
 -- `pages::last_ok` meets its contract: the chain of tests is the row of tests.
 -- Assumes nothing.
 use borrow.Author.Needs.{needs}
-use Rattle.basics.specs.Tests.{holds}
+use Rattle.choices.specs.Tests.{holds}
 use Rattle.pages.specs.Pages.{lastOk}
 use Rattle.pages.proofs.last_ok.Statement.{statement}
 use Rattle.pages.proofs.last_ok.Tie as tie

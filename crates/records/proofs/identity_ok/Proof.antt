@@ -1,6 +1,6 @@
 -- `records::identity_ok` meets its contract: the chain of tests is the row of tests.
 -- Assumes nothing.
-use Rattle.basics.specs.Tests.{holds}
+use Rattle.choices.specs.Tests.{holds}
 use Rattle.records.specs.Records.{identityOk}
 use Rattle.records.proofs.identity_ok.Statement.{statement}
 use Rattle.records.proofs.identity_ok.Tie as tie

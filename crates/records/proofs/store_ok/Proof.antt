@@ -1,7 +1,7 @@
 -- `records::store_ok` meets its contract: the chain of tests is the row of tests; 512 times a u32 fits a usize.
 -- Assumes nothing.
 use borrow.Author.Needs.{needs}
-use Rattle.basics.specs.Tests.{holds}
+use Rattle.choices.specs.Tests.{holds}
 use Rattle.records.specs.Records.{storeOk}
 use Rattle.records.proofs.store_ok.Statement.{statement}
 use Rattle.records.proofs.store_ok.Tie as tie

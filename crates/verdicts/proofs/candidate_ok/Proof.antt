@@ -1,7 +1,7 @@
 -- `verdicts::candidate_ok` meets its contract: the chain of tests is the row of tests.
 -- Assumes nothing.
 use borrow.Author.Needs.{needs}
-use Rattle.basics.specs.Tests.{holds}
+use Rattle.choices.specs.Tests.{holds}
 use Rattle.verdicts.specs.Verdicts.{candidateOk}
 use Rattle.verdicts.proofs.candidate_ok.Statement.{statement}
 use Rattle.verdicts.proofs.candidate_ok.Tie as tie

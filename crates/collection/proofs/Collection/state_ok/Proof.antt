@@ -1,7 +1,7 @@
 -- `collection::Collection::state_ok` meets its contract: the chain of tests is the row of tests.
 -- Assumes nothing.
 use borrow.Author.Needs.{needs}
-use Rattle.basics.specs.Tests.{holds}
+use Rattle.choices.specs.Tests.{holds}
 use Rattle.collection.specs.Collection.{stateOk}
 use Rattle.collection.proofs.Collection.state_ok.Statement.{statement}
 use Rattle.collection.proofs.Collection.state_ok.Tie as tie

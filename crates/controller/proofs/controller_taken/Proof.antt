@@ -1,0 +1,14 @@
+-- `controller::controller_taken` meets its contract: the generation wraps at 256; every other part is the record's.
+-- Assumes nothing.
+use borrow.Author.Needs.{needs}
+use Rattle.controller.proofs.controller_taken.Statement.{statement}
+use Rattle.controller.proofs.controller_taken.Tie as tie
+
+wrapping-add-u8-requires : tie.Need-wrapping-add-u8-requires
+wrapping-add-u8-requires c κs = search needs
+
+returns : tie.Need-returns
+returns c = cc
+
+pub controller-taken-spec : {M : Type 1} → statement M
+controller-taken-spec = tie.close (tie.spec wrapping-add-u8-requires returns)

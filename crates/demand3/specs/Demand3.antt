@@ -1,0 +1,128 @@
+-- Demand 3, of the project's own controller and collection.
+-- Assumes nothing.
+use Prim.Native.Nat.{ℕ, _+_, _-_, _*_, _≤_, _<_}
+use mathlib.Core.Path.{_≡_, subst}
+use mathlib.Core.List.{List, _++_}
+use mathlib.Core.Bool.{true, false}
+use lib.ListN.{length}
+use lib.Dec.{ltb, eqb}
+use borrow.Author.Tests.{eqb-true}
+use Rattle.choices.specs.Tests.{and-left, and-right}
+use Rattle.copies.specs.Parts.{zeros}
+use Rattle.answers.specs.Answers.{success, noRoom, withdrawn, nothing}
+use Rattle.pages.specs.Pages.{controllerPage, block, most4}
+use Rattle.records.specs.Records.{controllerFields, fieldsFor}
+use Rattle.course.specs.declared.Plan.{Plan}
+use Rattle.course.specs.declared.Phase.the-variants.{First}
+use Rattle.course.specs.Course.{setupAnswer, areaLast, awaitedBy, showsNone}
+use Rattle.collection.specs.declared.Ending.{Ending}
+use Rattle.collection.specs.declared.Next.the-variants.{Ended as Ends, Refused}
+use Rattle.verdicts.specs.Accepted.{unless-disagree}
+use Rattle.controller.specs.Controller.{World, lentBy}
+use Rattle.controller.specs.Laws.{Typed, asked, command-answer}
+use Rattle.sources.specs.Source.{Turn, Stand, forLent, collected}
+use Rattle.sources.specs.Promise.{Told, succeeded, lacked, withdrew, empty, mostCommands, Finished}
+use Rattle.sources.specs.Demand.{demand, first-fair}
+use Rattle.demand3.specs.Bench.{Loan, ownOf, controllerSource}
+use Rattle.demand3.specs.Shown.{showsFor, wantedArea, Good}
+use Rattle.demand3.specs.Own.{not-four}
+use Rattle.demand3.specs.Instance.{controllerKeeps}
+
+-- A run: a collection of plan p into this copy, from the controller as it stands in w; its first command with what it is lent, and then turns, each
+-- of any events and a command with what that is lent.
+module _ (p : Plan) (copy : List ℕ) (w : World) (first : Loan) (ts : List (Turn (controllerSource (p .page)))) where
+  unfoldable pub final : Stand (controllerSource (p .page))
+  final = collected (controllerSource (p .page)) p copy w first ts
+
+  -- ---- what is asked of it
+
+  pub record Asked (k : ℕ) : Type 0 where
+    -- setup takes the plan, which has the controller's capabilities, and the copy is as long as it says
+    pub taken : setupAnswer p ≡ success
+    pub caps : w .own .caps ≡ p .caps
+    pub room : length copy ≡ p .room
+    -- what the types say of the record
+    pub typed : Typed w
+    -- at most k captures of the page after the first command, k at most 255, and more than k attempts
+    pub few : k ≤ 255
+    pub attempts : k < p .attempts
+    pub captures : final .captures ≤ k
+    -- none of the run's commands was answered 3, 4 or 5
+    pub spared : final .lentRefusals ≡ 0
+
+  -- ---- what is promised
+
+  -- how it may end, v being the controller at the last check, the last header that was judged
+  pub data Ended (e : Ending) (v : World) : Type 0 where
+    -- 0: the copy is the wanted area of v and then zeros; a newer capture is said to be unread just where one came after the last check
+    succeeded-by : e .answer ≡ success → final .copy ≡ wantedArea p v ++ zeros (p .room - length (wantedArea p v)) → e .newer ≡ ltb 0 (final .since) → Ended e v
+    -- 8: the wanted area of v is larger than the copy, which is zeros
+    room-short : e .answer ≡ noRoom → final .copy ≡ zeros (p .room) → p .room < block * areaLast p (fieldsFor (p .page) (v .own) .last) → Ended e v
+    -- 10: the page is 08h, and its TCDA went to 0 after the first header
+    gone : e .answer ≡ withdrawn → final .copy ≡ zeros (p .room) → p .page ≡ controllerPage → v .own .controller .tcda ≡ 0 → 2 ≤ length (final .sent) → Ended e v
+    -- 11: the page is 08h, and its TCDA was 0 at the first header
+    never-there : e .answer ≡ nothing → final .copy ≡ zeros (p .room) → p .page ≡ controllerPage → v .own .controller .tcda ≡ 0 → length (final .sent) ≡ 1 → Ended e v
+
+  pub record Demand3 (k : ℕ) : Type 0 where
+    -- the reported count is the number of commands in the run's record
+    pub counted : final .collection .count ≡ length (final .sent)
+    pub says : (e : Ending) → final .said ≡ Ends e → e .count ≡ length (final .sent)
+    -- it is within 1 + (k + 1)(C + 1), one more on 08h, C being the most chunks that an attempt's header called for, and also with C at the house
+    -- limit
+    pub bounded : final .collection .count ≤ mostCommands p k (final .most)
+    pub limited : final .collection .count ≤ mostCommands p k most4
+    -- and so many completions end the run
+    pub ends : mostCommands p k (final .most) ≤ 1 + length ts → Finished (controllerSource (p .page)) final
+    pub ends-limited : mostCommands p k most4 ≤ 1 + length ts → Finished (controllerSource (p .page)) final
+    -- never 13, 14 or 15
+    pub never : (n : ℕ) → final .said ≡ Refused n → ⊥
+    -- every ending is one of the four, and true
+    pub ended : (e : Ending) → final .said ≡ Ends e → Ended e (final .checked)
+
+  -- ---- the theorem
+
+  -- a header of 08h that shows no data
+  none-shown : showsNone p (showsFor (p .page) (final .checked)) ≡ true → (p .page ≡ controllerPage) × (final .checked .own .controller .tcda ≡ 0)
+  unfolding showsFor fieldsFor controllerFields
+  none-shown n =
+      let q = eqb-true (p .page) controllerPage (and-left (eqb (p .page) controllerPage) _ n) in
+      let z = eqb-true _ 0 (and-right (eqb (p .page) controllerPage) (eqb (fieldsFor (p .page) (final .checked .own) .tcda) 0) n) in
+      (q, subst (λ (page : ℕ). fieldsFor page (final .checked .own) .tcda ≡ 0) q z)
+
+  told : (e : setupAnswer p ≡ success) (x : Ending) → Told (controllerSource (p .page)) p (controllerKeeps p e) x final → Ended x (final .checked)
+  unfolding controllerKeeps showsFor
+  told e x (succeeded a c l n) = succeeded-by a c n
+  told e x (lacked a c r) = room-short a c r
+  told e x (withdrew a c n t) = let q = none-shown n in gone a c (q .0) (q .1) t
+  told e x (empty a c n t) = let q = none-shown n in never-there a c (q .0) (q .1) t
+
+  -- a first command that is not answered 4 finds an agreeing controller
+  good : (k : ℕ) → Asked k → Good p w
+  unfolding final ownOf
+  good k a =
+      let words = awaitedBy First p (zeros 4) in
+      let fair = first-fair (controllerSource (p .page)) p (controllerKeeps p (a .taken)) copy w first ts (a .taken) (a .spared) in
+      let answer = command-answer w (first .candidate) words (first .buf) in
+      record {
+        agrees =
+            unless-disagree (w .own) (asked w words) (first .candidate .last) (lentBy w (first .candidate) (first .buf))
+            (not-four _ (subst (λ (n : ℕ). forLent n ≡ false) answer fair));
+        typed = a .typed;
+        caps = a .caps;
+      }
+
+  pub demand3 : (k : ℕ) → Asked k → Demand3 k
+  unfolding controllerKeeps final
+  demand3 k a =
+      let d = demand (controllerSource (p .page)) p (controllerKeeps p (a .taken)) copy w first ts (a .taken) (a .room) (good k a) k (a .few) (a .attempts) (a .captures) (a .spared) in
+      let r = d .0 in
+      record {
+        counted = r .counted;
+        says = r .says;
+        bounded = r .bounded;
+        limited = r .limited;
+        ends = λ h. d .1 _ (r .bounded) h;
+        ends-limited = λ h. d .1 _ (r .limited) h;
+        never = r .never;
+        ended = λ x q. told (a .taken) x (r .told x q);
+      }

@@ -1,0 +1,101 @@
+-- The controller is a source that keeps all that a collection relies on.
+-- Assumes nothing.
+use Prim.Native.Nat.{ℕ, _+_, _%_, _≤_, _<_}
+use mathlib.Core.Path.{_≡_, refl, sym, ap, subst, _∙_}
+use mathlib.Core.List.{List}
+use mathlib.Core.Bool.{Bool, true, false, _&&_}
+use lib.Dec.{eqb}
+use borrow.Author.Tests.{eqb-true, leb-true}
+use Rattle.choices.specs.Choice.{pick}
+use Rattle.choices.specs.Tests.{by-test, clash, each, or-cases}
+use Rattle.answers.specs.Answers.{success}
+use Rattle.pages.specs.Pages.{hostPage, controllerPage}
+use Rattle.words.specs.declared.Words.{Words}
+use Rattle.course.specs.declared.Plan.{Plan}
+use Rattle.course.specs.declared.Phase.{Phase}
+use Rattle.course.specs.declared.Phase.the-variants.{First, Chunk, Close, CloseRefused, Ack, Ended}
+use Rattle.course.specs.Course.{planTests, setupAnswer, mcdaOf, awaitedBy, builtBy}
+use Rattle.course.specs.Laws.{plan-taken, plan-limits}
+use Rattle.course.specs.Awaited.{first-mcda}
+use Rattle.collection.specs.Laws.{closingBy}
+use Rattle.controller.specs.Controller.{World}
+use Rattle.controller.specs.Own.{sends, retained}
+use Rattle.sources.specs.Source.{forLent}
+use Rattle.sources.specs.Keeps.{Keeps, Header}
+use Rattle.demand3.specs.Bench.{Event, Loan, actOf, capturesOf, ownOf, controllerSource}
+use Rattle.demand3.specs.Shown.{showsFor, wantedArea, Good, plan-page, area-long}
+use Rattle.demand3.specs.Events.{act-good, act-moves, act-quiet}
+use Rattle.demand3.specs.Own.{own-header-law, own-create-law, own-good, chunk-keeps, chunk-long, chunk-right}
+
+module _ (p : Plan) (e : setupAnswer p ≡ success) where
+  -- create goes with 07h alone
+  create-page : p .create ≡ true → p .page ≡ hostPage
+  create-page c =
+      or-cases (eqb (p .page) hostPage) (eqb (p .page) controllerPage) (plan-page p e)
+      (λ q. eqb-true (p .page) hostPage q)
+      (λ q. clash {t = true} refl (sym (rw (c, q) at (each (planTests p) (plan-taken p e .0) 6))))
+
+  pub byte : (w : World) → Good p w → showsFor (p .page) w .generation < 256
+  unfolding showsFor
+  byte w g = by-test (eqb (p .page) hostPage) (λ q. rw q (g .typed .host-byte)) (λ q. rw q (g .typed .controller-byte))
+
+  pub sound : (w : World) → showsFor (p .page) w .good ≡ true
+  unfolding showsFor
+  sound w = refl
+
+  pub moves : (x : Event) (w : World) → Good p w → showsFor (p .page) (actOf x w) .generation ≡ (showsFor (p .page) w .generation + capturesOf (p .page) x w) % 256
+  unfolding showsFor
+  moves x w g = act-moves (p .page) (plan-page p e) x w (byte w g)
+
+  -- the first command, with create or not
+  abbrev pub First-law : Loan → World → Words → Type 0
+  First-law l w words = forLent (ownOf l words w .answer) ≡ false → Header p (ownOf l words w) (showsFor (p .page) (ownOf l words w .source))
+
+  pub first-law : (l : Loan) (last : List ℕ) (w : World) → Good p w → First-law l w (awaitedBy First p last)
+  unfolding awaitedBy builtBy
+  first-law l last w g =
+      by-test (p .create)
+      (λ c.
+      let h = create-page c in
+      let m : mcdaOf p ≤ 4 = leb-true (mcdaOf p) 4 (first-mcda (p .create) (p .caps .mcdas) (p .area) (plan-limits p e .area-high) .0) in
+      let q : sends (p .page) (p .create) (mcdaOf p) true 0 1 ≡ sends hostPage true (mcdaOf p) true 0 1 =
+      ap (λ (n : ℕ). sends n (p .create) (mcdaOf p) true 0 1) h ∙ ap (λ (b : Bool). sends hostPage b (mcdaOf p) true 0 1) c in
+      subst (First-law l w) (sym q) (own-create-law p e w g l h (mcdaOf p) m))
+      (λ c.
+      let q : sends (p .page) (p .create) (mcdaOf p) true 0 1 ≡ sends (p .page) false 0 true 0 1 =
+      ap (λ (b : Bool). sends (p .page) b (pick (b && p .caps .mcdas) (p .area) 0) true 0 1) c in
+      subst (First-law l w) (sym q)
+      (λ f.
+      let k = own-header-law p e w g l true f in
+      let same = k .1 ∙ retained w (p .page) false 0 0 1 in
+      subst (λ (v : World). Header p (ownOf l (sends (p .page) false 0 true 0 1) w) (showsFor (p .page) v)) (sym same) (k .0)))
+
+  -- a later header
+  pub closing-law : (f : Phase) → closingBy f ≡ true → (l : Loan) (last : List ℕ) (w : World) → Good p w → forLent (ownOf l (awaitedBy f p last) w .answer) ≡ false
+      → Header p (ownOf l (awaitedBy f p last) w) (showsFor (p .page) w)
+      × (ownOf l (awaitedBy f p last) w .source ≡ w)
+  unfolding awaitedBy builtBy
+  closing-law First c l last w g f = clash {t = true} refl (sym c)
+  closing-law (Chunk at) c l last w g f = clash {t = true} refl (sym c)
+  closing-law Close c l last w g f = let k = own-header-law p e w g l true f in (k .0, k .1 ∙ retained w (p .page) false 0 0 1)
+  closing-law CloseRefused c l last w g f = let k = own-header-law p e w g l true f in (k .0, k .1 ∙ retained w (p .page) false 0 0 1)
+  closing-law Ack c l last w g f = clash {t = true} refl (sym c)
+  closing-law Ended c l last w g f = clash {t = true} refl (sym c)
+
+  unfoldable pub controllerKeeps : Keeps (controllerSource (p .page)) p
+  unfolding awaitedBy builtBy
+  controllerKeeps = record {
+    Good = Good p;
+    shows = showsFor (p .page);
+    area = wantedArea p;
+    sound = λ w g. sound w;
+    byte = byte;
+    long = λ w g. area-long p w;
+    act-good = λ x w g. act-good p x w g;
+    moves = λ x w g. moves x w g;
+    quiet = λ x w g. act-quiet p e x w g;
+    first = λ l last w g f. (first-law l last w g f, own-good p e w g l (awaitedBy First p last));
+    closing = closing-law;
+    chunk = λ at l last w g r i f. (chunk-keeps p e w g l at last r i f, chunk-long p e w g l at last r i f, chunk-right p e w g l at last r i f);
+    ack = λ l last w g f. own-header-law p e w g l false f .0;
+  }

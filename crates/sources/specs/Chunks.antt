@@ -1,0 +1,193 @@
+-- A chunk and the acknowledgement keep the invariant.
+-- Assumes nothing.
+use Prim.Native.Nat.{ℕ, _+_, _-_, _*_, _%_, _≤_, _<_}
+use mathlib.Core.Path.{_≡_, refl, sym, ap, subst, _∙_}
+use mathlib.Core.List.{List, [], _++_, append-assoc}
+use mathlib.Core.Bool.{Bool, true, false, not}
+use native.Mathlib.Omega.{arith}
+use lib.ListN.{length, take, drop, length-append, length-take}
+use lib.Seq.{take-at, take-add}
+use lib.Dec.{eqb, ltb}
+use borrow.Author.Tests.{eq-eqb, ne-eqb, eqb-true, eqb-false, lt-ltb}
+use Rattle.choices.specs.Choice.{pick}
+use Rattle.choices.specs.Tests.{by-test, clash}
+use Rattle.copies.specs.Parts.{zeros, put}
+use Rattle.answers.specs.Answers.{success}
+use Rattle.pages.specs.Pages.{block}
+use Rattle.course.specs.declared.Plan.{Plan}
+use Rattle.course.specs.declared.Phase.{Phase}
+use Rattle.course.specs.declared.Phase.the-variants.{Chunk, CloseRefused, Ack}
+use Rattle.course.specs.Course.{areaLast, areaBytes, chunkBlocks, followingOf, lookBy}
+use Rattle.course.specs.Laws.{chunk-inside, chunk-full, chunk-short}
+use Rattle.collection.specs.declared.Collection.{Collection}
+use Rattle.collection.specs.declared.Next.the-variants.{Send}
+use Rattle.collection.specs.declared.Stepped.{Stepped}
+use Rattle.collection.specs.Collection.{awaitedOf, expectedOf, lookOf, refusalOf, newerThan, inPhase}
+use Rattle.collection.specs.Laws.{same-or-not}
+use Rattle.collection.specs.Steps.{sends, ends, chunk-good, chunk-refused, ack-done}
+use Rattle.collection.specs.Copied.{chunk-copy, ending-copy, sending-copy}
+use Rattle.runs.specs.Run.{given}
+use Rattle.sources.specs.Source.{Source, Done, Stand, headerBy, fine, dataOf, stepped, hears}
+use Rattle.sources.specs.Keeps.{Keeps, Header}
+use Rattle.sources.specs.Promise.{succeeded}
+use Rattle.sources.specs.Inv.{Common, Opened, Mid, Had, Inv}
+use Rattle.sources.specs.Heard.{takes, at-phase, step, copied, finish, ended}
+
+-- what is put after a part that is right is right up to its end
+put-grows : (copy area b : List ℕ) (i n : ℕ) → i + length b ≤ length copy → length b ≡ n → take i copy ≡ take i area → b ≡ take n (drop i area)
+    → take (i + n) (put copy i b) ≡ take (i + n) area
+put-grows copy area b i n room l same e =
+    let long : length (take i copy ++ b) ≡ i + n = simp (length-append, length-take) (omega arith) in
+    ap (λ (x : List ℕ). take (i + n) x) (sym (append-assoc (take i copy) b (drop (i + length b) copy)))
+    ∙ take-at (take i copy ++ b) (drop (i + length b) copy) (i + n) long
+    ∙ ap (λ (x : List ℕ). x ++ b) same
+    ∙ ap (λ (x : List ℕ). take i area ++ x) e
+    ∙ sym (take-add i n area)
+
+-- the blocks that are done after a chunk, by whether another one follows
+full-done : (c at b : ℕ) → 1 ≤ at → at ≤ b → at + c ≤ b → at - 1 + chunkBlocks c at b ≡ at + c - 1
+full-done c at b l h f = let e = chunk-full c at b h (omega arith) in omega arith
+
+short-done : (c at b : ℕ) → 1 ≤ at → at ≤ b → b < at + c → at - 1 + chunkBlocks c at b ≡ b
+short-done c at b l h f = let e = chunk-short c at b h (omega arith) in omega arith
+
+-- another generation is seen just where a capture moved it
+newer-is : (seen old since : ℕ) → old < 256 → since ≤ 255 → seen ≡ (old + since) % 256 → not (eqb seen old) ≡ ltb 0 since
+newer-is seen old since low few e =
+    by-test (eqb seen old)
+    (λ t. let none : since ≡ 0 = omega (arith, eqb-true seen old t) in rw (t, none))
+    (λ t. let some : 0 < since = omega (arith, eqb-false seen old t) in rw (t, lt-ltb 0 since some))
+
+module _ (D : Source) (p : Plan) (K : Keeps D p) (s : Stand D) (o : Done (D .State)) (c : Common D p K s) where
+  abbrev state : Collection
+  state = s .collection
+
+  -- ---- a chunk
+
+  module _ (at : ℕ) (f : state .phase ≡ Chunk at) (m : Mid D p K s (at - 1) true) (same : o .source ≡ s .source) where
+    abbrev last : ℕ
+    last = areaLast p (state .last)
+
+    abbrev n : ℕ
+    n = chunkBlocks (p .chunk) at last
+
+    -- the stand after it, whose last header is the one before
+    abbrev plain : Stepped → List ℕ → Stand D
+    plain x y = record {
+      collection = x .state;
+      said = x .next;
+      copy = y;
+      source = s .source;
+      sent = stepped D s o x y .sent;
+      checked = s .checked;
+      since = s .since;
+      captures = s .captures;
+      lentRefusals = stepped D s o x y .lentRefusals;
+      most = stepped D s o x y .most;
+    }
+
+    plain-is : (x : Stepped) (y : List ℕ) → plain x y ≡ stepped D s o x y
+    plain-is x y = rw (f, same)
+
+    due : expectedOf state ≡ block * n
+    unfolding expectedOf
+    due = rw (f, c .plan)
+
+    room : length (s .copy) ≡ state .plan .room
+    room = c .size ∙ ap (λ (q : Plan). q .room) (sym (c .plan))
+
+    -- what the attempt's header says stays said
+    still-opened : (x : Stepped) (y : List ℕ) → x .next ≡ Send (awaitedOf (x .state)) → x .state .generation ≡ state .generation → x .state .last ≡ state .last
+        → Opened D p K (plain x y)
+    still-opened x y e g l =
+        let op = m .opened in
+        record {
+          said = e;
+          generation = g ∙ op .generation;
+          last = l ∙ op .last;
+          good = op .good;
+          here = op .here;
+          live = op .live;
+          gens = op .gens ∙ ap (λ (i : ℕ). (i + s .since) % 256) (sym g);
+          begun = omega (arith, op .begun, length-append (s .sent) (given (x .next)));
+        }
+
+    served : o .answer ≡ success → length (o .bytes) ≡ block * n
+        → (K .shows (s .source) .last ≡ state .last → o .bytes ≡ take (block * n) (drop (block * (at - 1)) (K .area (s .source))))
+        → Inv D p K (hears D s o)
+    unfolding awaitedOf
+    served a l right =
+        let z : fine o ≡ true = eq-eqb (o .answer) success a in
+        let t : refusalOf state true (length (o .bytes)) (length (s .copy)) ≡ success =
+        takes state true (o .bytes) (length (s .copy)) (c .house) (rw f) room (l ∙ sym due) in
+        let i = chunk-inside at last (rw (f, c .plan) at (c .house .inside)) in
+        let x : Stepped = sends (inPhase state (followingOf (state .plan) (state .last) at)) in
+        let y : List ℕ = put (s .copy) (block * (at - 1)) (o .bytes) in
+        let cc = chunk-copy state at (o .bytes) (s .copy) f t in
+        let ex : step D p K s o ≡ x = rw z (chunk-good state at (o .bytes) (length (s .copy)) f t) in
+        let ey : copied D p K s o ≡ y = rw z (cc .1) in
+        let place : block * (at - 1 + n) ≡ block * (at - 1) + block * n = omega arith in
+        let mid : Mid D p K (plain x y) (at - 1 + n) true = record {
+          opened = still-opened x y refl refl refl;
+          kept = λ none live.
+              let k = m .kept none live in
+              let e : o .bytes ≡ take (block * n) (drop (block * (at - 1)) (K .area (s .checked))) = right (k .last) ∙ rw (k .area) in
+              record {
+                last = k .last;
+                area = k .area;
+                whole = refl;
+                filled = rw place (put-grows (s .copy) (K .area (s .checked)) (o .bytes) (block * (at - 1)) (block * n) (cc .0) l (k .filled) e);
+              };
+        } in
+        finish D p K s o x y ex ey c (rw f (c .tries))
+        (at-phase D p K (stepped D s o x y) (at + state .plan .chunk) (at - 1 + n) (areaLast (state .plan) (state .last))
+        (ap (λ (q : Plan). areaLast q (state .last)) (c .plan))
+        (λ h. rw (c .plan) (full-done (p .chunk) at last (i .0) (i .1) (rw (c .plan) at h)))
+        (λ h. rw (c .plan) (short-done (p .chunk) at last (i .0) (i .1) (rw (c .plan) at h)))
+        (subst (λ (v : Stand D). Mid D p K v (at - 1 + n) true) (plain-is x y) mid))
+
+    -- refused, and then the page is no longer the one that the attempt's header showed
+    refused : (o .answer ≡ success → ⊥) → (K .shows (s .source) .last ≡ state .last → o .answer ≡ success) → Inv D p K (hears D s o)
+    unfolding awaitedOf
+    refused a right =
+        let z : fine o ≡ false = ne-eqb (o .answer) success a in
+        let t : refusalOf state false 0 (length (s .copy)) ≡ success = takes state false [] (length (s .copy)) (c .house) (rw f) room refl in
+        let x : Stepped = sends (inPhase state CloseRefused) in
+        let ex : step D p K s o ≡ x = rw z (chunk-refused state at [] (length (s .copy)) f t) in
+        let ey : copied D p K s o ≡ s .copy =
+        sending-copy state (fine o) (dataOf o) (s .copy) (awaitedOf (inPhase state CloseRefused)) (ap (λ (v : Stepped). v .next) ex) (λ b q k. clash k z) in
+        finish D p K s o x (s .copy) ex ey c (rw f (c .tries))
+        (subst (λ (v : Stand D). Mid D p K v 0 false) (plain-is x (s .copy))
+        (record {
+          opened = still-opened x (s .copy) refl refl refl;
+          kept = λ none live. absurd (a (right (m .kept none live .last)));
+        }))
+
+    pub chunk-inv : (o .answer ≡ success → length (o .bytes) ≡ block * n)
+        → (K .shows (s .source) .last ≡ state .last → (o .answer ≡ success) × (o .bytes ≡ take (block * n) (drop (block * (at - 1)) (K .area (s .source)))))
+        → Inv D p K (hears D s o)
+    chunk-inv long right =
+        same-or-not (o .answer) success
+        (λ a. served a (long a) (λ e. right e .1))
+        (λ a. refused a (λ e. right e .0))
+
+  -- ---- the acknowledgement
+
+  pub ack-inv : state .phase ≡ Ack → Had D p K s → Header p o (K .shows (s .source)) → s .since ≤ 255 → Inv D p K (hears D s o)
+  unfolding lookOf lookBy expectedOf newerThan
+  ack-inv f h hdr few =
+      let op = h .opened in
+      let z : fine o ≡ true = eq-eqb (o .answer) success (hdr .answer) in
+      let t : refusalOf state true (length (o .bytes)) (length (s .copy)) ≡ success =
+      takes state true (o .bytes) (length (s .copy)) (c .house) (rw f) (c .size ∙ ap (λ (q : Plan). q .room) (sym (c .plan))) (rw f (hdr .long)) in
+      let newer : Bool = newerThan state (lookOf state (o .bytes)) in
+      let ex : step D p K s o ≡ ends state false success newer = rw z (ack-done state (o .bytes) (length (s .copy)) f t) in
+      let left = ending-copy state (fine o) (dataOf o) (s .copy) (record { answer = success; newer = newer; count = state .count }) (ap (λ (v : Stepped). v .next) ex) in
+      let l : areaBytes p (state .last) ≡ length (K .area (s .checked)) = ap (areaBytes p) (op .last) ∙ sym (K .long (s .checked) (op .good)) in
+      let ey : copied D p K s o ≡ K .area (s .checked) ++ zeros (p .room - length (K .area (s .checked))) =
+      left .stood refl ∙ rw (c .plan, c .size, h .filled, l) in
+      let low : state .generation < 256 = rw (op .generation) (K .byte (s .checked) (op .good)) in
+      let seen : lookOf state (o .bytes) ≡ K .shows (s .source) = rw (f, c .plan) (hdr .seen) in
+      let said : newer ≡ ltb 0 (s .since) = rw seen (newer-is (K .shows (s .source) .generation) (state .generation) (s .since) low few (op .gens)) in
+      ended D p K s o c false newer success _ ex ey (rw f (c .tries))
+      (succeeded refl (rw f) (rw f (op .live)) (said ∙ ap (λ (g : Phase). ltb 0 (pick (headerBy g) 0 (s .since))) (sym f)))

@@ -1,0 +1,10 @@
+pub mod Source
+pub mod Keeps
+pub mod Promise
+pub mod Inv
+pub mod Happened
+pub mod Heard
+pub mod Judged
+pub mod Chunks
+pub mod Turns
+pub mod Demand

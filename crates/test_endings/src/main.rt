@@ -1,0 +1,317 @@
+// Every ending of a collection and every answer of setup and step, each driven once by real steps, with two that would apply at the same
+// time wherever the paper gives an order. Of each it writes the answer, the number of commands and what the copy holds. The file stdout
+// beside src/ has what the paper says.
+use collection::Collection;
+use collection::Next;
+use collection::Stepped;
+use course::Phase;
+use course::Plan;
+use header::Fields;
+use libc::STDOUT_FILENO;
+use pages::Caps;
+
+fn say(text: &[u8]) {
+    io::write_all(STDOUT_FILENO, text);
+}
+
+fn decimal(n: u64) {
+    io::print_decimal(STDOUT_FILENO, n);
+}
+
+// A page's area 1 in chunks of two blocks, into a copy of four.
+fn plan(page: u8, attempts: u32) -> Plan {
+    Plan {
+        page,
+        create: false,
+        area: 1,
+        chunk: 2,
+        attempts,
+        room: 2048,
+        caps: Caps {
+            extended: true,
+            telemetry: true,
+            da4s: false,
+            etdas: false,
+            mcdas: false,
+        },
+    }
+}
+
+// A header whose area 1 ends at block `b`.
+fn heading(page: u8, b: u32, tcda: u8, generation: u8) -> [u8; 512] {
+    let last = [b, 9, 9, 0];
+    header::write(Fields {
+        page,
+        oui: 0x123456,
+        last,
+        scope: 1,
+        hostgeneration: generation,
+        tcda,
+        controllergeneration: generation,
+        reason: [3; 128],
+    })
+}
+
+// Three blocks as `collected` reads them, and zeros in the fourth.
+fn three_blocks() -> [u8; 2048] {
+    let mut wanted = [0u8; 2048];
+    copies::put(&[1u8; 1024], &mut wanted, 0);
+    copies::put(&[2u8; 512], &mut wanted, 1024);
+    wanted
+}
+
+fn copy_is(copy: &[u8]) {
+    if check::same(copy, &[0u8; 2048]) {
+        say(b"zeros");
+    } else if check::same(copy, &three_blocks()) {
+        say(b"three blocks, then zeros");
+    } else if check::same(copy, &[9u8; 2048]) {
+        say(b"unchanged");
+    } else {
+        say(b"part of the area, the rest unchanged");
+    }
+}
+
+fn show_next(next: Next) {
+    match next {
+        Next::Send(_) => say(b"sent"),
+        Next::Ended(e) => {
+            say(b"ended ");
+            decimal(e.answer as u64);
+            if e.newer {
+                say(b" newer");
+            }
+            say(b", commands ");
+            decimal(e.count);
+        }
+        Next::Refused(answer) => {
+            say(b"refused ");
+            decimal(answer as u64);
+        }
+    }
+}
+
+// What followed, and the copy; then the state.
+fn show(label: &[u8], x: Stepped, copy: &[u8]) -> Collection {
+    let next = x.next;
+    say(label);
+    say(b": ");
+    show_next(next);
+    say(b", copy ");
+    copy_is(copy);
+    say(b"\n");
+    x.state
+}
+
+// One step, shown with the copy after it.
+fn tried(label: &[u8], s: Collection, ok: bool, data: &[u8], copy: &mut [u8]) -> Collection {
+    let x = s.step(ok, data, copy);
+    show(label, x, copy)
+}
+
+fn began(p: Plan) -> Collection {
+    let x = collection::setup(p);
+    x.state
+}
+
+fn stepped(s: Collection, ok: bool, data: &[u8], copy: &mut [u8]) -> Collection {
+    let x = s.step(ok, data, copy);
+    x.state
+}
+
+// The state that awaits the closing header: an area of three blocks, generation 5.
+fn collected(p: Plan, copy: &mut [u8]) -> Collection {
+    let head = heading(p.page, 3, 1, 5);
+    let a = stepped(began(p), true, &head, copy);
+    let b = stepped(a, true, &[1u8; 1024], copy);
+    stepped(b, true, &[2u8; 512], copy)
+}
+
+// The same with the second chunk refused.
+fn broken(p: Plan, copy: &mut [u8]) -> Collection {
+    let head = heading(p.page, 3, 1, 5);
+    let a = stepped(began(p), true, &head, copy);
+    let b = stepped(a, true, &[1u8; 1024], copy);
+    stepped(b, false, b"", copy)
+}
+
+fn setup(label: &[u8], p: Plan) {
+    let x = collection::setup(p);
+    let next = x.next;
+    say(label);
+    say(b": ");
+    show_next(next);
+    say(b"\n");
+}
+
+fn setups() {
+    let mut p = plan(0x08, 2);
+    setup(b"taken", p);
+    p.area = 4;
+    setup(b"area 4 without DA4S", p);
+    p.attempts = 257;
+    setup(b"the same with 257 attempts", p);
+    let mut q = plan(0x07, 2);
+    q.room = 0;
+    setup(b"a copy of no bytes", q);
+}
+
+fn first(label: &[u8], ok: bool, data: &[u8]) {
+    let mut copy = [9u8; 2048];
+    tried(label, began(plan(0x08, 2)), ok, data, &mut copy);
+}
+
+fn firsts() {
+    first(b"first header refused", false, b"");
+    first(b"of another page and TCDA 0", true, &heading(0x07, 5, 0, 5));
+    first(b"TCDA 0 and five blocks", true, &heading(0x08, 5, 0, 5));
+    first(b"five blocks", true, &heading(0x08, 5, 1, 5));
+    first(b"four blocks", true, &heading(0x08, 4, 1, 5));
+}
+
+fn closing(label: &[u8], p: Plan, ok: bool, data: &[u8]) {
+    let mut copy = [9u8; 2048];
+    let s = collected(p, &mut copy);
+    tried(label, s, ok, data, &mut copy);
+}
+
+fn closing_broken(label: &[u8], ok: bool, data: &[u8]) {
+    let mut copy = [9u8; 2048];
+    let s = broken(plan(0x08, 2), &mut copy);
+    tried(label, s, ok, data, &mut copy);
+}
+
+fn closings() {
+    let one = plan(0x08, 1);
+    let two = plan(0x08, 2);
+    closing(
+        b"closing header on 07h",
+        plan(0x07, 1),
+        true,
+        &heading(0x07, 3, 0, 5),
+    );
+    closing(b"closing header refused", two, false, b"");
+    closing(
+        b"of another page and TCDA 0",
+        two,
+        true,
+        &heading(0x07, 3, 0, 5),
+    );
+    closing(
+        b"TCDA 0 and the last attempt's mismatch",
+        one,
+        true,
+        &heading(0x08, 3, 0, 6),
+    );
+    closing(
+        b"the last attempt's mismatch, five blocks",
+        one,
+        true,
+        &heading(0x08, 5, 1, 6),
+    );
+    closing(
+        b"a mismatch, five blocks",
+        two,
+        true,
+        &heading(0x08, 5, 1, 6),
+    );
+    closing(
+        b"a mismatch, four blocks",
+        two,
+        true,
+        &heading(0x08, 4, 1, 6),
+    );
+    closing(b"a match, five blocks", two, true, &heading(0x08, 5, 1, 5));
+    closing_broken(
+        b"a match after a refused chunk",
+        true,
+        &heading(0x08, 3, 1, 5),
+    );
+    closing_broken(
+        b"a mismatch after a refused chunk",
+        true,
+        &heading(0x08, 3, 1, 6),
+    );
+}
+
+fn acknowledged(label: &[u8], ok: bool, data: &[u8]) {
+    let mut copy = [9u8; 2048];
+    let s = collected(plan(0x08, 2), &mut copy);
+    let t = stepped(s, true, &heading(0x08, 3, 1, 5), &mut copy);
+    tried(label, t, ok, data, &mut copy);
+}
+
+fn acknowledgements() {
+    acknowledged(b"acknowledged", true, &heading(0x08, 3, 1, 5));
+    acknowledged(
+        b"acknowledged, another page's bad header",
+        true,
+        &heading(0x07, 5, 0, 5),
+    );
+    acknowledged(
+        b"acknowledged, a newer generation",
+        true,
+        &heading(0x08, 3, 1, 6),
+    );
+    acknowledged(b"acknowledgement refused", false, b"");
+}
+
+// A step that is lent another copy than the setup's, which stays.
+fn lent_short(s: Collection, head: &[u8], copy: &[u8]) -> Collection {
+    let mut short = [9u8; 1536];
+    let x = s.step(true, head, &mut short);
+    show(b"a shorter copy", x, copy)
+}
+
+// Data of a wrong length, and data with a refusal.
+fn lent_wrong(head: &[u8], copy: &mut [u8]) -> Collection {
+    let a = began(plan(0x08, 2));
+    let b = tried(b"511 bytes of a header", a, true, &[8u8; 511], copy);
+    tried(b"a refusal with data", b, false, head, copy)
+}
+
+// 15 leaves the state: the step after it goes on as if it had not been.
+fn unfit() {
+    let mut copy = [9u8; 2048];
+    let head = heading(0x08, 3, 1, 5);
+    let a = lent_wrong(&head, &mut copy);
+    let b = lent_short(a, &head, &copy);
+    tried(b"then the header", b, true, &head, &mut copy);
+}
+
+// The third attempt of two.
+fn third(phase: Phase) -> Collection {
+    let last = [3, 9, 9, 0];
+    Collection {
+        plan: plan(0x08, 2),
+        phase,
+        attempt: 3,
+        count: 4,
+        generation: 5,
+        last,
+    }
+}
+
+fn forged() {
+    let mut copy = [9u8; 2048];
+    let close = third(Phase::Close);
+    let over = third(Phase::Ended);
+    let data = [8u8; 511];
+    tried(
+        b"a third attempt of two, 511 bytes",
+        close,
+        true,
+        &data,
+        &mut copy,
+    );
+    tried(b"the same after its ending", over, true, &data, &mut copy);
+}
+
+fn main() {
+    setups();
+    firsts();
+    closings();
+    acknowledgements();
+    unfit();
+    forged();
+}

@@ -1,0 +1,335 @@
+// The rows and vectors of document 01 that concern the words, the pages, the headers and the classes, run by the compiled code. The
+// file stdout beside src/ has what the paper says of each.
+use header::Fields;
+use libc::STDOUT_FILENO;
+use pages::Caps;
+use words::Words;
+
+fn say(text: &[u8]) {
+    io::write_all(STDOUT_FILENO, text);
+}
+
+fn decimal(n: u64) {
+    io::print_decimal(STDOUT_FILENO, n);
+}
+
+fn byte(b: u8) {
+    decimal(b as u64);
+}
+
+fn word(n: u32) {
+    say(b" ");
+    io::print_hex(STDOUT_FILENO, n as u64, 8);
+}
+
+fn class(identifier: u8) {
+    io::print_hex(STDOUT_FILENO, identifier as u64, 2);
+    say(b" ");
+    decimal(classes::class(identifier) as u64);
+    say(b"\n");
+}
+
+fn status(answer: u8) {
+    let s = answers::status_of(answer);
+    decimal(answer as u64);
+    if s.given {
+        say(b" ");
+        decimal(s.sct as u64);
+        say(b" ");
+        io::print_hex(STDOUT_FILENO, s.sc as u64, 2);
+        say(b"\n");
+    } else {
+        say(b" none\n");
+    }
+}
+
+fn build(page: u8, create: bool, mcda: u8, rae: bool, offset: u32, blocks: u32) {
+    let b = words::build(page, create, mcda, rae, offset, blocks);
+    let w = b.words;
+    decimal(b.answer as u64);
+    word(w.cdw10);
+    word(w.cdw11);
+    word(w.cdw12);
+    word(w.cdw13);
+    word(w.cdw14);
+    say(b"\n");
+}
+
+fn read(extended: bool, cdw10: u32, cdw11: u32, cdw12: u32, cdw13: u32, cdw14: u32) {
+    let w = Words {
+        cdw10,
+        cdw11,
+        cdw12,
+        cdw13,
+        cdw14,
+    };
+    let c = words::read(extended, w);
+    say(b"page ");
+    decimal(c.page as u64);
+    if c.create {
+        say(b" create");
+    }
+    say(b" mcda ");
+    decimal(c.mcda as u64);
+    if c.rae {
+        say(b" rae");
+    }
+    say(b" bytes ");
+    decimal(c.bytes as u64);
+    say(b" offset ");
+    decimal(c.offset as u64);
+    if c.indexed {
+        say(b" indexed");
+    }
+    say(b"\n");
+}
+
+fn four(a: [u32; 4]) {
+    decimal(a[0] as u64);
+    say(b",");
+    decimal(a[1] as u64);
+    say(b",");
+    decimal(a[2] as u64);
+    say(b",");
+    decimal(a[3] as u64);
+}
+
+fn capable(da4s: bool, etdas: bool, mcdas: bool) -> Caps {
+    Caps {
+        extended: true,
+        telemetry: true,
+        da4s,
+        etdas,
+        mcdas,
+    }
+}
+
+fn trim(da4s: bool, etdas: bool, mcdas: bool, mcda: u32, a: [u32; 4]) {
+    four(pages::trim(capable(da4s, etdas, mcdas), mcda, a));
+    say(b"\n");
+}
+
+fn size(da4s: bool, etdas: bool, a: [u32; 4]) {
+    decimal(pages::size(capable(da4s, etdas, false), a) as u64);
+    say(b"\n");
+}
+
+fn rule(da4s: bool, a: [u32; 4]) {
+    if pages::last_ok(da4s, a) {
+        say(b"kept\n");
+    } else {
+        say(b"broken\n");
+    }
+}
+
+fn sample(page: u8) -> [u8; 512] {
+    let last = [2, 2, 5, 9];
+    header::write(Fields {
+        page,
+        oui: 0x123456,
+        last,
+        scope: 1,
+        hostgeneration: 255,
+        tcda: 1,
+        controllergeneration: 7,
+        reason: [3; 128],
+    })
+}
+
+fn check(page: u8, da4s: bool, h: &[u8]) {
+    let k = header::check(page, da4s, h);
+    let f = k.fields;
+    decimal(k.answer as u64);
+    say(b" page ");
+    decimal(f.page as u64);
+    say(b" oui");
+    word(f.oui);
+    say(b" last ");
+    let last = f.last;
+    four(last);
+    say(b" scope ");
+    decimal(f.scope as u64);
+    say(b" generations ");
+    decimal(f.hostgeneration as u64);
+    say(b",");
+    decimal(f.controllergeneration as u64);
+    say(b" tcda ");
+    decimal(f.tcda as u64);
+    say(b" reason ");
+    let reason = f.reason;
+    byte(reason[0]);
+    say(b",");
+    byte(reason[127]);
+    say(b"\n");
+}
+
+fn check_whole(page: u8, da4s: bool, h: &[u8; 512]) {
+    check(page, da4s, h);
+}
+
+fn check_part(page: u8, h: &[u8], end: usize) {
+    if end <= h.len() {
+        check(page, true, &h[0..end]);
+    }
+}
+
+fn check_cut(page: u8, h: &[u8; 512]) {
+    check_part(page, h, 511);
+}
+
+fn check_with(page: u8, at: usize, byte: u8) {
+    let mut h = sample(page);
+    if at < 512 {
+        h[at] = byte;
+    }
+    check_whole(page, true, &h);
+}
+
+fn identifiers() {
+    say(b"classes, by identifier\n");
+    class(0x00);
+    class(0x0d);
+    class(0x0e);
+    class(0x0f);
+    class(0x18);
+    class(0x19);
+    class(0x1a);
+    class(0x23);
+    class(0x24);
+    class(0x25);
+    class(0x26);
+    class(0x6f);
+    class(0x70);
+    class(0x73);
+    class(0x74);
+    class(0x7e);
+    class(0x7f);
+    class(0x81);
+    class(0x82);
+    class(0xbf);
+    class(0xc0);
+    class(0xff);
+}
+
+fn statuses() {
+    say(b"statuses, by answer\n");
+    status(0);
+    status(1);
+    status(2);
+    status(3);
+    status(15);
+    status(255);
+}
+
+fn built() {
+    say(b"first word, 07h, create, w = 3, MCDAS\n");
+    build(0x07, true, 3, true, 0, 1);
+    say(b"the listing of 08h, B = 7, c = 3\n");
+    build(0x08, false, 0, true, 0, 1);
+    build(0x08, false, 0, true, 1, 3);
+    build(0x08, false, 0, true, 4, 3);
+    build(0x08, false, 0, true, 7, 1);
+    build(0x08, false, 0, true, 0, 1);
+    build(0x08, false, 0, false, 0, 1);
+    say(b"the longest command, at the last block of the largest area 4\n");
+    build(0x08, false, 0, true, 1048576, 8192);
+    say(
+        b"bad arguments: page, create on 08h, MCDA, MCDA without create, length 0 and 8,193, offset\n",
+    );
+    build(0x09, false, 0, true, 0, 1);
+    build(0x08, true, 0, true, 0, 1);
+    build(0x07, true, 5, true, 0, 1);
+    build(0x07, false, 1, true, 0, 1);
+    build(0x07, false, 0, true, 0, 0);
+    build(0x07, false, 0, true, 0, 8193);
+    build(0x07, false, 0, true, 1048577, 1);
+}
+
+fn asked() {
+    say(
+        b"words read: the longest transfer, bits 27:16 alone without extended data, create on 08h, offset type, reserved bits\n",
+    );
+    read(true, 0xffff0007, 0x0000ffff, 0, 0, 0);
+    read(false, 0xf07f0007, 0xffffffff, 0, 0, 0);
+    read(true, 0x007f0f08, 0, 0x200, 1, 0);
+    read(true, 0x007ef107, 0xffff0000, 0, 0, 0x00800000);
+    read(true, 0x007f7007, 0, 0, 0, 0xff7fffff);
+}
+
+fn trimmed() {
+    say(b"candidate (2,2,5,9), DA4S, ETDAS, MCDAS 1: MCDA 2, 0, 1, 3, 4\n");
+    trim(true, true, true, 2, [2, 2, 5, 9]);
+    trim(true, true, true, 0, [2, 2, 5, 9]);
+    trim(true, true, true, 1, [2, 2, 5, 9]);
+    trim(true, true, true, 3, [2, 2, 5, 9]);
+    trim(true, true, true, 4, [2, 2, 5, 9]);
+    say(b"the same with MCDAS 0 and MCDA 2; ETDAS 0 and MCDA 0, 4; DA4S 0 and MCDA 0, 2\n");
+    trim(true, true, false, 2, [2, 2, 5, 9]);
+    trim(true, false, true, 0, [2, 2, 5, 9]);
+    trim(true, false, true, 4, [2, 2, 5, 9]);
+    trim(false, true, true, 0, [2, 2, 5, 9]);
+    trim(false, true, true, 2, [2, 2, 5, 9]);
+    say(b"candidate (0,3,5,5), MCDA 1\n");
+    trim(true, true, true, 1, [0, 3, 5, 5]);
+    say(b"sizes: (2,2,5,0) without area 4; (2,2,5,9) with, and with ETDAS 0; any four numbers\n");
+    size(false, false, [2, 2, 5, 0]);
+    size(true, true, [2, 2, 5, 9]);
+    size(true, false, [2, 2, 5, 9]);
+    size(true, true, [0, 0, 0, 4294967295]);
+    say(
+        b"the rule: in order; a1 > a2; a2 > a3; a3 over its limit; a4 < a3; a4 over its limit; a4 alone; a4 without DA4S\n",
+    );
+    rule(true, [2, 2, 5, 9]);
+    rule(true, [3, 2, 5, 9]);
+    rule(true, [2, 6, 5, 9]);
+    rule(true, [2, 2, 65536, 65536]);
+    rule(true, [2, 2, 5, 4]);
+    rule(true, [2, 2, 5, 1048577]);
+    rule(true, [0, 0, 0, 1]);
+    rule(false, [2, 2, 5, 9]);
+    say(b"and at its limits, with DA4S and without\n");
+    rule(true, [65535, 65535, 65535, 1048576]);
+    rule(false, [65535, 65535, 65535, 0]);
+    rule(false, [0, 0, 0, 0]);
+}
+
+fn headers() {
+    say(b"headers read back: 07h, 08h\n");
+    let host = sample(0x07);
+    let controller = sample(0x08);
+    check_whole(0x07, true, &host);
+    check_whole(0x08, true, &controller);
+    say(
+        b"good: 07h with scope 0, 08h with byte 380 at FFh, 07h with TCDA 1 and a3 = 0, 08h with TCDA 0 and last blocks\n",
+    );
+    check_with(0x07, 380, 0);
+    check_with(0x08, 380, 255);
+    let mut empty = [0u8; 512];
+    empty[0] = 0x07;
+    empty[382] = 1;
+    check_whole(0x07, false, &empty);
+    check_with(0x08, 382, 0);
+    say(
+        b"bad: length, identifier, a page asked for that is none, a1 > a2, a4 without DA4S, scope 3, TCDA 2, 08h available but empty\n",
+    );
+    check_cut(0x07, &host);
+    check_whole(0x08, true, &host);
+    let mut none = [0u8; 512];
+    none[0] = 0x09;
+    check_whole(0x09, true, &none);
+    check_with(0x07, 9, 1);
+    check_whole(0x07, false, &host);
+    check_with(0x08, 381, 3);
+    check_with(0x07, 382, 2);
+    empty[0] = 0x08;
+    check_whole(0x08, false, &empty);
+}
+
+fn main() {
+    identifiers();
+    statuses();
+    built();
+    asked();
+    trimmed();
+    headers();
+}
