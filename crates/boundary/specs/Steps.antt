@@ -16,6 +16,7 @@ use Rattle.pages.specs.declared.Caps.{Caps}
 use Rattle.words.specs.declared.Words.{Words}
 use Rattle.words.specs.declared.Built.{Built}
 use Rattle.header.specs.declared.Checked.{Checked}
+use Rattle.header.specs.Header.{answerOf}
 use Rattle.records.specs.declared.Identity.{Identity}
 use Rattle.records.specs.declared.Record.{Record}
 use Rattle.records.specs.Records.{identityOk, agreesWith, freshOf}
@@ -36,9 +37,9 @@ given-is {s} e g = ap (λ (b : Bool). pick b (256 * s .sct + s .sc) noNumber) (s
 pub not-given-is : {s t : Status} → s ≡ t → s .given ≡ false → noNumber ≡ numberOf t
 not-given-is {s} e g = ap (λ (b : Bool). pick b (256 * s .sct + s .sc) noNumber) (sym g) ∙ ap numberOf e
 
-pub check-is : {x y : Checked} {w : List ℕ} → x ≡ y → w ≡ fieldsBytes (x .fields)
-    → (x .answer ≡ y .answer) × (w ≡ fieldsBytes (y .fields))
-check-is e w = (ap (λ (c : Checked). c .answer) e, w ∙ ap (λ (c : Checked). fieldsBytes (c .fields)) e)
+pub check-is : {x y : Checked} {n : ℕ} {w : List ℕ} → x ≡ y → w ≡ fieldsBytes (x .fields) → n ≡ answerOf (x .fault)
+    → (n ≡ answerOf (y .fault)) × (w ≡ fieldsBytes (y .fields))
+check-is e w a = (a ∙ ap (λ (c : Checked). answerOf (c .fault)) e, w ∙ ap (λ (c : Checked). fieldsBytes (c .fields)) e)
 
 pub words-are : {x y : Built} {w : List ℕ} → x ≡ y → w ≡ wordsList (x .words) → (x .answer ≡ y .answer) × (w ≡ wordsList (y .words))
 words-are e w = (ap (λ (b : Built). b .answer) e, w ∙ ap (λ (b : Built). wordsList (b .words)) e)

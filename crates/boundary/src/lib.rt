@@ -13,7 +13,7 @@ ghost use Rattle.choices.specs.Choice.{pick};
 ghost use Rattle.answers.specs.Answers.{success, disagree, statusOf};
 ghost use Rattle.classes.specs.Classes.{classOf};
 ghost use Rattle.words.specs.Words.{builtOf};
-ghost use Rattle.header.specs.Header.{checkOf};
+ghost use Rattle.header.specs.Header.{answerOf, checkOf};
 ghost use Rattle.collection.specs.Collection.{setupOf};
 ghost use Rattle.controller.specs.Controller.{candidateOf};
 ghost use Rattle.layouts.specs.Layouts.{stateBytes, nextBytes, fieldsBytes};
@@ -78,12 +78,13 @@ fn kind_of(next: Next) -> u8
 // Checks a header, and writes its fields, or zeros where it is bad.
 #[no_mangle]
 pub extern "C" fn bumbazeel_check(page: u8, da4s: u8, h: &[u8], fields: &mut [u8; 156]) -> u8
-    ensures { λ r. ⌜ (r ≡ checkOf page (flagOf da4s) (now (h .entry)) .answer) × (now (fields .exit) ≡ fieldsBytes (checkOf page (flagOf da4s) (now (h .entry)) .fields)) ⌝ }
+    ensures { λ r. ⌜ (r ≡ answerOf (checkOf page (flagOf da4s) (now (h .entry)) .fault)) × (now (fields .exit) ≡ fieldsBytes (checkOf page (flagOf da4s) (now (h .entry)) .fields)) ⌝ }
 {
     let x = header::check(page, da4s != 0, h);
     let found = x.fields;
+    let fault = x.fault;
     *fields = layouts::write_fields(found);
-    x.answer
+    header::answer_of(fault)
 }
 
 // Builds the words of a command.

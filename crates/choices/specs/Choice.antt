@@ -18,6 +18,17 @@ abbrev pub firstThat : {A : Type 0} → List (Bool × A) → A → A
 firstThat [] last = last
 firstThat (r ∷ rs) last = pick (r .0) (r .1) (firstThat rs last)
 
+-- x is the first of the row: its test holds and none before it does; or no test holds, and x is what stands after the row
+pub data First {A : Type 0} : List (Bool × A) → A → A → Type 0 where
+  this : {r : Bool × A} {rs : List (Bool × A)} {last : A} → r .0 ≡ true → First (r ∷ rs) last (r .1)
+  later : {r : Bool × A} {rs : List (Bool × A)} {last x : A} → r .0 ≡ false → First rs last x → First (r ∷ rs) last x
+  none : {last : A} → First [] last last
+
+pub first-that : {A : Type 0} (rs : List (Bool × A)) (last : A) → First rs last (firstThat rs last)
+first-that [] last = none
+first-that ((true, x) ∷ rs) last = this refl
+first-that ((false, x) ∷ rs) last = later refl (first-that rs last)
+
 -- the smaller of two numbers
 abbrev pub smaller : ℕ → ℕ → ℕ
 smaller a b = pick (leb a b) a b

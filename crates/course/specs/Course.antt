@@ -15,7 +15,7 @@ use Rattle.pages.specs.Pages.{hostPage, controllerPage, telemetryPage, block, l
 use Rattle.words.specs.Words.{mostBlocks, noWords, builtOf}
 use Rattle.words.specs.declared.Words.{Words}
 use Rattle.words.specs.declared.Built.{Built}
-use Rattle.header.specs.Header.{checkOf}
+use Rattle.header.specs.Header.{faultless, checkOf}
 use Rattle.course.specs.declared.Plan.{Plan}
 use Rattle.course.specs.declared.Phase.{Phase}
 use Rattle.course.specs.declared.Phase.the-variants.{First, Chunk, Close, CloseRefused, Ack, Ended}
@@ -143,7 +143,7 @@ generationOf page d = pick (eqb (length d) block) (pick (eqb page hostPage) (get
 -- of a header or of the acknowledgement's data
 unfoldable pub seenOf : Plan → List ℕ → Seen
 seenOf p d = record {
-  good = eqb (checkOf (p .page) (p .caps .da4s) d .answer) success;
+  good = faultless (checkOf (p .page) (p .caps .da4s) d .fault);
   tcda = checkOf (p .page) (p .caps .da4s) d .fields .tcda;
   generation = generationOf (p .page) d;
   last = checkOf (p .page) (p .caps .da4s) d .fields .last;

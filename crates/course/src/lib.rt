@@ -254,10 +254,11 @@ fn seen_of(p: Plan, data: &[u8]) -> Seen
 {
     let caps = p.caps;
     let checked = header::check(p.page, caps.da4s, data);
+    let fault = checked.fault;
     let fields = checked.fields;
     let last = fields.last;
     Seen {
-        good: checked.answer == answers::SUCCESS,
+        good: header::faultless(fault),
         tcda: fields.tcda,
         generation: own_generation(p.page, data),
         last,

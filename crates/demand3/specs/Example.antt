@@ -11,7 +11,7 @@ use Rattle.answers.specs.Answers.{success}
 use Rattle.pages.specs.declared.Caps.{Caps}
 use Rattle.pages.specs.Pages.{lastOk, greatestOf, blocksOf, sizeOf, topOf, trimmedTo, trimOf}
 use Rattle.words.specs.Words.{taken, builtOf}
-use Rattle.header.specs.Header.{headerOf, fieldsOk, checkOf}
+use Rattle.header.specs.Header.{headerOf, faultOf, checkOf}
 use Rattle.records.specs.Records.{identityOk, storeOk, controllerOk, agreesWith, hostFields, controllerFields, fieldsFor, freshOf}
 use Rattle.serving.specs.Serving.{windowOf, pageBytes}
 use Rattle.verdicts.specs.Verdicts.{candidateOk, fieldBad, lastAfter, commandAnswer}
@@ -50,11 +50,11 @@ turns =
     ∷ []
 
 pub example : (final plan [] fresh loan turns .said ≡ Ends (record { answer = success; newer = false; count = 3 })) × (mostCommands plan 1 0 ≡ 3)
-unfolding final collected run happen happens hears begun setupOf setupAnswer holds stepOf decideOf refusalOf stateOk withinBy fitsRoom completionFits expectedOf lookOf lookBy seenOf checkOf fieldsOk lastOk generationOf moveOf judgeBy firstJudge laterJudge mismatchJudge moved awaitedOf awaitedBy builtBy builtOf taken phaseAt matches copyAfter touched putAt commandOf answered commandAnswer agreesWith storeOk controllerOk identityOk greatestOf fieldBad lastAfter candidateOk sizeOf blocksOf topOf trimmedTo trimOf before afterwards sentOf pageOf pageBytes windowOf headerOf hostFields controllerFields fieldsFor freshOf hostCaptured ownOf actOf capturesOf
+unfolding final collected run happen happens hears begun setupOf setupAnswer holds stepOf decideOf refusalOf stateOk withinBy fitsRoom completionFits expectedOf lookOf lookBy seenOf checkOf faultOf lastOk generationOf moveOf judgeBy firstJudge laterJudge mismatchJudge moved awaitedOf awaitedBy builtBy builtOf taken phaseAt matches copyAfter touched putAt commandOf answered commandAnswer agreesWith storeOk controllerOk identityOk greatestOf fieldBad lastAfter candidateOk sizeOf blocksOf topOf trimmedTo trimOf before afterwards sentOf pageOf pageBytes windowOf headerOf hostFields controllerFields fieldsFor freshOf hostCaptured ownOf actOf capturesOf
 example = (refl, refl)
 
 pub asked : Asked plan [] fresh loan turns 1
-unfolding final collected run happen happens hears begun setupOf setupAnswer holds stepOf decideOf refusalOf stateOk withinBy fitsRoom completionFits expectedOf lookOf lookBy seenOf checkOf fieldsOk lastOk generationOf moveOf judgeBy firstJudge laterJudge mismatchJudge moved awaitedOf awaitedBy builtBy builtOf taken phaseAt matches copyAfter touched putAt commandOf answered commandAnswer agreesWith storeOk controllerOk identityOk greatestOf fieldBad lastAfter candidateOk sizeOf blocksOf topOf trimmedTo trimOf before afterwards sentOf pageOf pageBytes windowOf headerOf hostFields controllerFields fieldsFor freshOf hostCaptured ownOf actOf capturesOf
+unfolding final collected run happen happens hears begun setupOf setupAnswer holds stepOf decideOf refusalOf stateOk withinBy fitsRoom completionFits expectedOf lookOf lookBy seenOf checkOf faultOf lastOk generationOf moveOf judgeBy firstJudge laterJudge mismatchJudge moved awaitedOf awaitedBy builtBy builtOf taken phaseAt matches copyAfter touched putAt commandOf answered commandAnswer agreesWith storeOk controllerOk identityOk greatestOf fieldBad lastAfter candidateOk sizeOf blocksOf topOf trimmedTo trimOf before afterwards sentOf pageOf pageBytes windowOf headerOf hostFields controllerFields fieldsFor freshOf hostCaptured ownOf actOf capturesOf
 asked = record {
   taken = refl;
   caps = refl;

@@ -15,6 +15,7 @@ use Rattle.pages.specs.declared.Caps.{Caps}
 use Rattle.pages.specs.Pages.{hostPage, controllerPage, telemetryPage, block, lastOf, area4, blocksOf}
 use Rattle.pages.specs.Trimmed.{LastRule}
 use Rattle.header.specs.declared.Fields.{Fields}
+use Rattle.header.specs.declared.Fault.the-variants.{None}
 use Rattle.header.specs.Header.{headerOf, checkOf}
 use Rattle.header.specs.Back.{header-length}
 use Rattle.records.specs.Records.{hostFields, controllerFields, fieldsFor}
@@ -86,7 +87,7 @@ pub header-shown : (p : Plan) (w : World) → Good p w → telemetryPage (p .pag
     → seenOf p (headerOf (fieldsFor (p .page) (w .own))) ≡ showsFor (p .page) w
 unfolding seenOf showsFor
 header-shown p w g t =
-    let back : checkOf (p .page) (p .caps .da4s) (headerOf (fieldsFor (p .page) (w .own))) ≡ record { answer = success; fields = fieldsFor (p .page) (w .own) } =
+    let back : checkOf (p .page) (p .caps .da4s) (headerOf (fieldsFor (p .page) (w .own))) ≡ record { fault = None; fields = fieldsFor (p .page) (w .own) } =
     ap (λ (c : Caps). checkOf (p .page) (c .da4s) (headerOf (fieldsFor (p .page) (w .own)))) (sym (g .caps))
     ∙ record-reads-back (w .own) (length (w .host)) (length (w .controller)) (p .page) (g .typed .sized) (g .agrees) t in
     let gen : generationOf (p .page) (headerOf (fieldsFor (p .page) (w .own))) ≡ generationFor (p .page) w =

@@ -8,15 +8,16 @@ use native.Mathlib.Omega.{arith}
 use lib.ListN.{length, getD, take}
 use lib.Seq.{take-all}
 use lib.Dec.{eqb}
-use borrow.Author.Tests.{eq-eqb, ne-eqb}
 use Rattle.choices.specs.Choice.{pick}
 use Rattle.choices.specs.Numbers.{value-back}
 use Rattle.choices.specs.Tests.{each}
 use Rattle.pages.specs.Pages.{hostPage, block}
 use Rattle.pages.specs.Trimmed.{LastRule, last-rule}
-use Rattle.answers.specs.Answers.{success}
 use Rattle.header.specs.declared.Fields.{Fields}
-use Rattle.header.specs.Header.{marks, front, headerOf, lastAt, fieldsOf, fieldsOk, noFields, checkOf}
+use Rattle.header.specs.declared.Fault.{Fault}
+use Rattle.header.specs.declared.Fault.the-variants.{None, Length}
+use Rattle.header.specs.Header.{marks, front, headerOf, lastAt, fieldsOf, fieldsOk, fieldFault, checkedBy, checkOf}
+use Rattle.header.specs.Faults.{faultless-none, faultless-fields, fault-short, fault-long}
 
 -- a header is its front with the reason in place of the zeros
 pub write-is : (f : Fields) (m h r : List ℕ) → m ≡ marks f → h ≡ front (f .page) (f .oui) (f .last) m → r ≡ take 384 h ++ f .reason
@@ -27,19 +28,18 @@ write-is f m h r em eh er =
     ∙ ap (λ (l : List ℕ). take 384 l ++ f .reason) eh
     ∙ ap (λ (l : List ℕ). take 384 (front (f .page) (f .oui) (f .last) l) ++ f .reason) em
 
--- what the check is where its tests are known
-pub check-short : (page : ℕ) (da4s : Bool) (h : List ℕ) → (length h ≡ block → ⊥) → noFields ≡ checkOf page da4s h
+-- what the check is where its length is known: a short header's fields are zeros whatever was read
+pub check-short : (page : ℕ) (da4s : Bool) (h : List ℕ) (f : Fields) → (length h ≡ block → ⊥) → checkedBy Length f ≡ checkOf page da4s h
 unfolding checkOf
-check-short page da4s h n = rw (ne-eqb (length h) block n)
+check-short page da4s h f n = rw (← fault-short page da4s h n)
 
-pub check-long : (page : ℕ) (da4s : Bool) (h : List ℕ) (f : Fields) (ok : Bool)
-    → length h ≡ block → f ≡ fieldsOf page h → ok ≡ fieldsOk page da4s f
-    → pick ok (record { answer = success; fields = f }) noFields ≡ checkOf page da4s h
+pub check-long : (page : ℕ) (da4s : Bool) (h : List ℕ) (f : Fields) (x : Fault)
+    → length h ≡ block → f ≡ fieldsOf page h → x ≡ fieldFault page da4s f → checkedBy x f ≡ checkOf page da4s h
 unfolding checkOf
-check-long page da4s h f ok l e q =
-    ap (λ (t : Bool). pick t (record { answer = success; fields = f }) noFields) q
-    ∙ ap (λ (g : Fields). pick (fieldsOk page da4s g) (record { answer = success; fields = g }) noFields) e
-    ∙ rw (eq-eqb (length h) block l)
+check-long page da4s h f x l e q =
+    ap (λ (y : Fault). checkedBy y f) q
+    ∙ ap (λ (g : Fields). checkedBy (fieldFault page da4s g) g) e
+    ∙ ap (λ (y : Fault). checkedBy y (fieldsOf page h)) (fault-long page da4s h l)
 
 -- fields that a header can carry: arrays of the lengths that their types say, an OUI of three bytes, and no host generation on 08h
 pub record Carried (f : Fields) : Type 0 where
@@ -94,9 +94,10 @@ header-length f e = rw e
 
 -- Demand 2: a header written from fields that a header can carry and that are no bad header's is checked to exactly those fields.
 pub header-reads-back : (da4s : Bool) (f : Fields) → Carried f → fieldsOk (f .page) da4s f ≡ true
-    → checkOf (f .page) da4s (headerOf f) ≡ record { answer = success; fields = f }
+    → checkOf (f .page) da4s (headerOf f) ≡ record { fault = None; fields = f }
 unfolding fieldsOk
 header-reads-back da4s f w ok =
     sym
-    (check-long (f .page) da4s (headerOf f) f true (header-length f (w .reason))
-    (sym (fields-back f da4s w (last-rule da4s (f .last) (each _ ok 1)))) (sym ok))
+    (check-long (f .page) da4s (headerOf f) f None (header-length f (w .reason))
+    (sym (fields-back f da4s w (last-rule da4s (f .last) (each _ ok 1))))
+    (sym (faultless-none (fieldFault (f .page) da4s f) (faultless-fields (f .page) da4s f ∙ ok))))

@@ -1,18 +1,20 @@
--- Document 01, "Header bytes, both pages" and, under "Host", when a header is bad. One definition serves both pages: the page's number
+-- Document 01, "Header bytes, both pages" and, under "Host", when a header is bad, with what is at fault in it. One definition serves both pages: the page's number
 -- is a field.
 -- Assumes nothing.
 use Prim.Native.Nat.{ℕ}
 use mathlib.Core.List.{List, [], _∷_, _++_}
-use mathlib.Core.Bool.{Bool, _&&_, _||_}
+use mathlib.Core.Bool.{Bool, true, false, not, _&&_, _||_}
 use lib.ListN.{length, getD, take, drop}
 use lib.Dec.{ltb, leb, eqb}
-use Rattle.choices.specs.Choice.{pick}
+use Rattle.choices.specs.Choice.{pick, firstThat}
 use Rattle.choices.specs.Numbers.{bytesOf, valueAt}
 use Rattle.choices.specs.Tests.{holds}
 use Rattle.copies.specs.Parts.{zeros}
-use Rattle.pages.specs.Pages.{hostPage, telemetryPage, block, lastOk}
+use Rattle.pages.specs.Pages.{hostPage, telemetryPage, block, area2Ok, area3Ok, area4Ok, lastOk}
 use Rattle.answers.specs.Answers.{success, badHeader}
 use Rattle.header.specs.declared.Fields.{Fields}
+use Rattle.header.specs.declared.Fault.{Fault}
+use Rattle.header.specs.declared.Fault.the-variants.{None, Length, Identifier, Area2, Area3, Area4, Scope, Available, Empty}
 use Rattle.header.specs.declared.Checked.{Checked}
 
 -- bytes 0 to 379, by ranges as the paper gives them
@@ -63,6 +65,8 @@ fieldsOf page h = record {
   reason = take 128 (drop 384 h);
 }
 
+-- ---- what is at fault
+
 -- fields that no bad header has: the identifier of the page asked for, which is 07h or 08h; last blocks that keep the rule;
 -- a scope of at most 2; a TCDA of at most 1; and not available but empty, on 08h
 unfoldable pub fieldsOk : ℕ → Bool → Fields → Bool
@@ -75,16 +79,66 @@ fieldsOk page da4s f =
     ∷ (eqb page hostPage || eqb (f .tcda) 0 || ltb 0 (getD (f .last) 2 0))
     ∷ [])
 
--- the answer for a bad header: it yields no fields
-abbrev pub noFields : Checked
-noFields = record {
-  answer = badHeader;
-  fields = record { page = 0; oui = 0; last = zeros 4; scope = 0; hostgeneration = 0; tcda = 0; controllergeneration = 0; reason = zeros 128 };
-}
+-- nothing is at fault
+abbrev pub faultless : Fault → Bool
+faultless None = true
+faultless Length = false
+faultless Identifier = false
+faultless Area2 = false
+faultless Area3 = false
+faultless Area4 = false
+faultless Scope = false
+faultless Available = false
+faultless Empty = false
 
--- the check: the fields, or bad where the length is not 512 or the fields are a bad header's
+-- the paper's number of a check: every fault is a bad header
+abbrev pub answerOf : Fault → ℕ
+answerOf x = pick (faultless x) success badHeader
+
+-- the faults of a header's fields in their order, from what is as it should be
+abbrev pub faultOrder : Bool → Bool → Bool → Bool → Bool → Bool → Bool → List (Bool × Fault)
+faultOrder identifier area2 area3 area4 scope available some =
+    (not identifier, Identifier)
+    ∷ (not area2, Area2)
+    ∷ (not area3, Area3)
+    ∷ (not area4, Area4)
+    ∷ (not scope, Scope)
+    ∷ (not available, Available)
+    ∷ (not some, Empty)
+    ∷ []
+
+-- the tests of a header's fields, asked for as this page, each with its fault
+abbrev pub fieldFaults : ℕ → Bool → Fields → List (Bool × Fault)
+fieldFaults page da4s f =
+    faultOrder
+    (telemetryPage page && eqb (f .page) page)
+    (area2Ok (f .last))
+    (area3Ok (f .last))
+    (area4Ok da4s (getD (f .last) 2 0) (getD (f .last) 3 0))
+    (leb (f .scope) 2)
+    (leb (f .tcda) 1)
+    (eqb page hostPage || eqb (f .tcda) 0 || ltb 0 (getD (f .last) 2 0))
+
+-- the first of them, or none
+unfoldable pub fieldFault : ℕ → Bool → Fields → Fault
+fieldFault page da4s f = firstThat (fieldFaults page da4s f) None
+
+-- all of a header's tests: its length comes first
+abbrev pub headerFaults : ℕ → Bool → List ℕ → List (Bool × Fault)
+headerFaults page da4s h = (not (eqb (length h) block), Length) ∷ fieldFaults page da4s (fieldsOf page h)
+
+-- the first of them, or none
+unfoldable pub faultOf : ℕ → Bool → List ℕ → Fault
+faultOf page da4s h = firstThat (headerFaults page da4s h) None
+
+-- the fields of a header with a fault: it yields none
+abbrev pub noFields : Fields
+noFields = record { page = 0; oui = 0; last = zeros 4; scope = 0; hostgeneration = 0; tcda = 0; controllergeneration = 0; reason = zeros 128 }
+
+-- what a check answers of a fault and the fields read
+abbrev pub checkedBy : Fault → Fields → Checked
+checkedBy x f = record { fault = x; fields = pick (faultless x) f noFields }
+
+-- the check: the first fault, and the fields where there is none
 unfoldable pub checkOf : ℕ → Bool → List ℕ → Checked
-checkOf page da4s h =
-    pick (eqb (length h) block && fieldsOk page da4s (fieldsOf page h))
-    (record { answer = success; fields = fieldsOf page h })
-    noFields
+checkOf page da4s h = checkedBy (faultOf page da4s h) (fieldsOf page h)

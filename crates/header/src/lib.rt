@@ -1,14 +1,15 @@
 // The 512-byte header of the pages 07h and 08h: written from its fields, and checked and read by the host.
 //
-// It rests on choices, copies, answers and pages. It promises that the bytes written and the answer of the check are those of specs/Header.antt,
-// and that a header written from fields that agree is checked to exactly those fields (specs/Back.antt).
+// It rests on choices, copies, answers and pages. It promises that the bytes written, the fields read and the fault found are those of
+// specs/Header.antt, that the fault is the first of its order (specs/Faults.antt), and that a header written from fields that are good is
+// checked to exactly those fields (specs/Back.antt).
 ghost use mathlib.Core.Path.{_≡_};
 ghost use mathlib.Core.List.{_++_};
 ghost use Prim.Native.Nat.{_+_, _*_};
 ghost use lib.ListN.{length, take, drop};
-ghost use Rattle.choices.specs.Choice.{pick};
-ghost use Rattle.answers.specs.Answers.{success};
-ghost use Rattle.header.specs.Header.{front, marks, headerOf, lastAt, fieldsOf, fieldsOk, noFields, checkOf};
+ghost use Rattle.choices.specs.Choice.{pick, firstThat};
+ghost use Rattle.header.specs.declared.Fault.the-variants.{None};
+ghost use Rattle.header.specs.Header.{front, marks, headerOf, lastAt, fieldsOf, faultless, answerOf, faultOrder, fieldFault, noFields, checkedBy, checkOf};
 
 // What a header says. `hostgeneration` is the host generation, which an 08h header does not have: 0 there. `controllergeneration` is the controller
 // generation.
@@ -23,9 +24,31 @@ pub struct Fields {
     pub reason: [u8; 128],
 }
 
-// What a check answers: 0 with the fields, or 7 with zeros in their place.
+// What is at fault in a header: the first of these, in this order, of what a good header has otherwise.
+pub enum Fault {
+    // Nothing: the header is good.
+    None,
+    // It has not 512 bytes.
+    Length,
+    // Its identifier is not the page asked for, or that is neither 07h nor 08h.
+    Identifier,
+    // The last block of area 2 against the rule.
+    Area2,
+    // That of area 3.
+    Area3,
+    // That of area 4, for the DA4S given.
+    Area4,
+    // A scope above 2.
+    Scope,
+    // A TCDA above 1.
+    Available,
+    // An 08h header with data available, and none in area 3.
+    Empty,
+}
+
+// What a check answers: the fields where nothing is at fault, or the fault with zeros in their place.
 pub struct Checked {
-    pub answer: u8,
+    pub fault: Fault,
     pub fields: Fields,
 }
 
@@ -140,56 +163,118 @@ fn fields_of(page: u8, h: &[u8]) -> Fields
     }
 }
 
-fn fields_ok(page: u8, da4s: bool, f: Fields) -> bool
-    ensures { λ r. ⌜ r ≡ fieldsOk page da4s f ⌝ }
+// The first fault, from what of the fields is as it should be.
+fn first_fault(
+    identifier: bool,
+    area2: bool,
+    area3: bool,
+    area4: bool,
+    scope: bool,
+    available: bool,
+    some: bool,
+) -> Fault
+    ensures { λ r. ⌜ r ≡ firstThat (faultOrder identifier area2 area3 area4 scope available some) None ⌝ }
+{
+    if !identifier {
+        return Fault::Identifier;
+    }
+    if !area2 {
+        return Fault::Area2;
+    }
+    if !area3 {
+        return Fault::Area3;
+    }
+    if !area4 {
+        return Fault::Area4;
+    }
+    if !scope {
+        return Fault::Scope;
+    }
+    if !available {
+        return Fault::Available;
+    }
+    if !some {
+        return Fault::Empty;
+    }
+    Fault::None
+}
+
+fn fault_of(page: u8, da4s: bool, f: Fields) -> Fault
+    ensures { λ r. ⌜ r ≡ fieldFault page da4s f ⌝ }
 {
     let last = f.last;
     let a3 = last[2];
-    (((page == pages::HOST) | (page == pages::CONTROLLER)) & (f.page == page))
-        & pages::last_ok(da4s, last)
-        & (f.scope <= 2)
-        & (f.tcda <= 1)
-        & ((page == pages::HOST) | (f.tcda == 0) | (0 < a3))
+    first_fault(
+        ((page == pages::HOST) | (page == pages::CONTROLLER)) & (f.page == page),
+        pages::area2_ok(last),
+        pages::area3_ok(last),
+        pages::area4_ok(da4s, last),
+        f.scope <= 2,
+        f.tcda <= 1,
+        (page == pages::HOST) | (f.tcda == 0) | (0 < a3),
+    )
 }
 
-fn no_fields() -> Checked
+// Nothing is at fault.
+pub fn faultless(x: Fault) -> bool
+    ensures { λ r. ⌜ r ≡ faultless x ⌝ }
+{
+    match x {
+        Fault::None => true,
+        Fault::Length => false,
+        Fault::Identifier => false,
+        Fault::Area2 => false,
+        Fault::Area3 => false,
+        Fault::Area4 => false,
+        Fault::Scope => false,
+        Fault::Available => false,
+        Fault::Empty => false,
+    }
+}
+
+// The answer's number of a check: 0 where nothing is at fault, else 7.
+pub fn answer_of(x: Fault) -> u8
+    ensures { λ r. ⌜ r ≡ answerOf x ⌝ }
+{
+    choices::pick_u8(faultless(x), answers::SUCCESS, answers::BAD_HEADER)
+}
+
+fn no_fields() -> Fields
     ensures { λ r. ⌜ r ≡ noFields ⌝ }
 {
-    Checked {
-        answer: answers::BAD_HEADER,
-        fields: Fields {
-            page: 0,
-            oui: 0,
-            last: [0; 4],
-            scope: 0,
-            hostgeneration: 0,
-            tcda: 0,
-            controllergeneration: 0,
-            reason: [0; 128],
-        },
+    Fields {
+        page: 0,
+        oui: 0,
+        last: [0; 4],
+        scope: 0,
+        hostgeneration: 0,
+        tcda: 0,
+        controllergeneration: 0,
+        reason: [0; 128],
     }
 }
 
-fn judged(ok: bool, f: Fields) -> Checked
-    ensures { λ r. ⌜ r ≡ pick ok (record { answer = success; fields = f }) noFields ⌝ }
+fn pick_fields(t: bool, f: Fields, g: Fields) -> Fields
+    ensures { λ r. ⌜ r ≡ pick t f g ⌝ }
 {
-    if ok {
-        Checked {
-            answer: answers::SUCCESS,
-            fields: f,
-        }
-    } else {
-        no_fields()
-    }
+    if t { f } else { g }
 }
 
-// The fields of a header of the page asked for, under a DA4S, or 7 where it is bad.
+fn judged(x: Fault, f: Fields) -> Checked
+    ensures { λ r. ⌜ r ≡ checkedBy x f ⌝ }
+{
+    let fields = pick_fields(faultless(x), f, no_fields());
+    Checked { fault: x, fields }
+}
+
+// The fields of a header of the page asked for, under a DA4S, or what is at fault in it.
 pub fn check(page: u8, da4s: bool, h: &[u8]) -> Checked
     ensures { λ r. ⌜ r ≡ checkOf page da4s (now (h .entry)) ⌝ }
 {
     if h.len() != pages::BLOCK {
-        return no_fields();
+        let zeros = no_fields();
+        return judged(Fault::Length, zeros);
     }
     let f = fields_of(page, h);
-    judged(fields_ok(page, da4s, f), f)
+    judged(fault_of(page, da4s, f), f)
 }

@@ -32,17 +32,21 @@ most3 = 65535
 abbrev pub most4 : ℕ
 most4 = 1048576
 
+-- area 2 ends no earlier than area 1
+abbrev pub area2Ok : List ℕ → Bool
+area2Ok a = leb (getD a 0 0) (getD a 1 0)
+
+-- area 3 ends no earlier than area 2, and within its limit
+abbrev pub area3Ok : List ℕ → Bool
+area3Ok a = leb (getD a 1 0) (getD a 2 0) && leb (getD a 2 0) most3
+
 -- with DA4S a4 is at least a3 and within the limit, and a4 > 0 asks for a3 > 0; without it a4 is 0
 abbrev pub area4Ok : Bool → ℕ → ℕ → Bool
 area4Ok da4s a3 a4 = pick da4s (leb a3 a4 && leb a4 most4 && (eqb a4 0 || ltb 0 a3)) (eqb a4 0)
 
 -- the rule's tests, one for each of areas 2, 3 and 4: a1 ≤ a2 ≤ a3 ≤ 65,535, and area 4's
 abbrev pub lastTests : Bool → List ℕ → List Bool
-lastTests da4s a =
-    leb (getD a 0 0) (getD a 1 0)
-    ∷ (leb (getD a 1 0) (getD a 2 0) && leb (getD a 2 0) most3)
-    ∷ area4Ok da4s (getD a 2 0) (getD a 3 0)
-    ∷ []
+lastTests da4s a = area2Ok a ∷ area3Ok a ∷ area4Ok da4s (getD a 2 0) (getD a 3 0) ∷ []
 
 -- last blocks that keep the rule for a DA4S
 unfoldable pub lastOk : Bool → List ℕ → Bool

@@ -5,7 +5,8 @@
 // whose numbers are in order gives last blocks that keep the rule (specs/Trimmed.antt).
 ghost use mathlib.Core.Path.{_≡_};
 ghost use Prim.Native.Nat.{_+_, _*_};
-ghost use Rattle.pages.specs.Pages.{block, area4Ok, lastOk, lastOf, greatestOf, blocksOf, sizeOf, topOf, trimmedTo, trimOf};
+ghost use lib.ListN.{getD};
+ghost use Rattle.pages.specs.Pages.{block, area2Ok, area3Ok, area4Ok, lastOk, lastOf, greatestOf, blocksOf, sizeOf, topOf, trimmedTo, trimOf};
 
 // Telemetry host-initiated.
 pub const HOST: u8 = 0x07;
@@ -28,9 +29,26 @@ pub struct Caps {
     pub mcdas: bool,
 }
 
-fn area4_ok(da4s: bool, a3: u32, a4: u32) -> bool
-    ensures { λ r. ⌜ r ≡ area4Ok da4s a3 a4 ⌝ }
+// Area 2's last block keeps the rule: area 1 does not end behind it.
+pub fn area2_ok(a: [u32; 4]) -> bool
+    ensures { λ r. ⌜ r ≡ area2Ok a ⌝ }
 {
+    a[0] <= a[1]
+}
+
+// Area 3's last block keeps the rule: area 2 does not end behind it, and it is two bytes wide.
+pub fn area3_ok(a: [u32; 4]) -> bool
+    ensures { λ r. ⌜ r ≡ area3Ok a ⌝ }
+{
+    (a[1] <= a[2]) & (a[2] <= MOST_3)
+}
+
+// Area 4's last block keeps the rule for the DA4S given.
+pub fn area4_ok(da4s: bool, a: [u32; 4]) -> bool
+    ensures { λ r. ⌜ r ≡ area4Ok da4s (getD a 2 0) (getD a 3 0) ⌝ }
+{
+    let a3 = a[2];
+    let a4 = a[3];
     choices::pick_bool(
         da4s,
         (a3 <= a4) & (a4 <= MOST_4) & ((a4 == 0) | (0 < a3)),
@@ -42,7 +60,7 @@ fn area4_ok(da4s: bool, a3: u32, a4: u32) -> bool
 pub fn last_ok(da4s: bool, a: [u32; 4]) -> bool
     ensures { λ r. ⌜ r ≡ lastOk da4s a ⌝ }
 {
-    (a[0] <= a[1]) & ((a[1] <= a[2]) & (a[2] <= MOST_3)) & area4_ok(da4s, a[2], a[3])
+    area2_ok(a) & area3_ok(a) & area4_ok(da4s, a)
 }
 
 // The last block of an area: area 4's for any number but 1, 2 and 3.

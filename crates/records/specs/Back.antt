@@ -10,10 +10,10 @@ use lib.ListN.{length, getD}
 use lib.Dec.{ltb, eqb}
 use borrow.Author.Tests.{leb-true, ltb-true, eqb-true, le-leb, lt-ltb, eq-eqb}
 use Rattle.choices.specs.Tests.{holds, each, or-cases, clash, implied, implies}
-use Rattle.answers.specs.Answers.{success}
 use Rattle.pages.specs.Pages.{hostPage, controllerPage, telemetryPage, block, area4Ok, lastOk, greatestOf}
 use Rattle.pages.specs.Trimmed.{LastRule, last-rule, rule-last}
 use Rattle.pages.specs.declared.Caps.{Caps}
+use Rattle.header.specs.declared.Fault.the-variants.{None}
 use Rattle.header.specs.Header.{headerOf, fieldsOk, checkOf}
 use Rattle.header.specs.Back.{header-reads-back}
 use Rattle.records.specs.declared.Identity.{Identity}
@@ -129,7 +129,7 @@ controller-fine r hostStore controllerStore a =
 -- Demand 2: the header of an agreeing record is checked to exactly the fields that it was written from.
 pub record-reads-back : (r : Record) (hostStore controllerStore : ℕ) (page : ℕ) → Sized r → agreesWith r hostStore controllerStore ≡ true
     → telemetryPage page ≡ true
-    → checkOf page (r .caps .da4s) (headerOf (fieldsFor page r)) ≡ record { answer = success; fields = fieldsFor page r }
+    → checkOf page (r .caps .da4s) (headerOf (fieldsFor page r)) ≡ record { fault = None; fields = fieldsFor page r }
 unfolding fieldsFor hostFields controllerFields
 record-reads-back r hostStore controllerStore page z e p =
     let a = agreed r hostStore controllerStore e in

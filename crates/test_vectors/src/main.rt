@@ -139,7 +139,8 @@ fn sample(page: u8) -> [u8; 512] {
 fn check(page: u8, da4s: bool, h: &[u8]) {
     let k = header::check(page, da4s, h);
     let f = k.fields;
-    decimal(k.answer as u64);
+    let fault = k.fault;
+    decimal(header::answer_of(fault) as u64);
     say(b" page ");
     decimal(f.page as u64);
     say(b" oui");

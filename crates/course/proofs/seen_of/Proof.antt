@@ -8,6 +8,9 @@ use Rattle.course.proofs.seen_of.Tie as tie
 check-requires : tie.Need-check-requires
 check-requires c κs = search needs
 
+faultless-requires : tie.Need-faultless-requires
+faultless-requires c κs = search needs
+
 own-generation-requires : tie.Need-own-generation-requires
 own-generation-requires c κs = search needs
 
@@ -16,4 +19,4 @@ unfolding seenOf
 returns c = cc
 
 pub seen-of-spec : {M : Type 1} → statement M
-seen-of-spec = tie.close (tie.spec check-requires own-generation-requires returns)
+seen-of-spec = tie.close (tie.spec check-requires faultless-requires own-generation-requires returns)
