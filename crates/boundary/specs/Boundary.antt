@@ -12,14 +12,18 @@ use Rattle.answers.specs.Answers.{success, disagree, badSetup}
 use Rattle.answers.specs.declared.Status.{Status}
 use Rattle.words.specs.declared.Words.{Words}
 use Rattle.records.specs.declared.Identity.{Identity}
+use Rattle.records.specs.declared.Record.{Record}
 use Rattle.records.specs.Records.{identityOk, freshOf}
 use Rattle.course.specs.declared.Plan.{Plan}
+use Rattle.collection.specs.declared.Collection.{Collection}
 use Rattle.collection.specs.declared.Next.{Next}
 use Rattle.collection.specs.declared.Next.the-variants.{Send, Ended as Ends, Refused}
 use Rattle.collection.specs.declared.Stepped.{Stepped}
 use Rattle.collection.specs.Collection.{stepOf, copyAfter}
 use Rattle.controller.specs.Controller.{Candidate, world, Outcome, commandOf, captureOf}
-use Rattle.layouts.specs.Layouts.{mostCaps, capsOf, recordBytes, recordAt, recordSound, stateBytes, stateAt, stateSound, send, ending, refusal, nextBytes}
+use Rattle.shared_layouts.specs.Layouts.{mostCaps, capsOf}
+use Rattle.record_layout.specs.Layout.{recordBytes, recordAt, recordIntact}
+use Rattle.state_layout.specs.Layout.{stateBytes, stateAt, stateIntact, send, ending, refusal, nextBytes}
 
 -- ---- flags, words, numbers
 
@@ -64,30 +68,33 @@ planOf page create area caps chunk attempts room = record {
 }
 
 -- what a step leaves: the kind that it answers, the state's bytes, the copy, and the bytes of what follows
-pub record Stood : Type 0 where
+pub record StepAnswer : Type 0 where
   pub kind : ℕ
   pub state : List ℕ
   pub copy : List ℕ
   pub follows : List ℕ
 
-abbrev pub stood : ℕ → List ℕ → List ℕ → List ℕ → Stood
-stood kind state copy follows = record { kind = kind; state = state; copy = copy; follows = follows }
+abbrev pub stepAnswer : ℕ → List ℕ → List ℕ → List ℕ → StepAnswer
+stepAnswer kind state copy follows = record { kind = kind; state = state; copy = copy; follows = follows }
 
 -- a refusal leaves the state's bytes as they were
-abbrev pub stateAfter : List ℕ → Stepped → List ℕ
-stateAfter s x = pick (eqb (kindOf (x .next)) refusal) s (stateBytes (x .state))
+abbrev pub stateAfter : List ℕ → ℕ → Collection → List ℕ
+stateAfter s kind after = pick (eqb kind refusal) s (stateBytes after)
+
+-- what a step leaves of a state's bytes, the copy being afterwards
+abbrev pub stepAnswerOf : List ℕ → Stepped → List ℕ → StepAnswer
+stepAnswerOf s x copy = stepAnswer (kindOf (x .next)) (stateAfter s (kindOf (x .next)) (x .state)) copy (nextBytes (x .next))
 
 -- a step on a state's bytes, data d and a copy
-unfoldable pub stepAt : List ℕ → Bool → List ℕ → List ℕ → Stood
+unfoldable pub stepAt : List ℕ → Bool → List ℕ → List ℕ → StepAnswer
 stepAt s ok d copy =
-    pick (stateSound s)
-    (stood (kindOf (stepOf (stateAt s) ok d (length copy) .next)) (stateAfter s (stepOf (stateAt s) ok d (length copy)))
-    (copyAfter (stateAt s) ok d copy)
-    (nextBytes (stepOf (stateAt s) ok d (length copy) .next)))
-    (stood refusal s copy (nextBytes (Refused badSetup)))
+    pick (stateIntact s)
+    (stepAnswerOf s (stepOf (stateAt s) ok d (length copy)) (copyAfter (stateAt s) ok d copy))
+    (stepAnswer refusal s copy (nextBytes (Refused badSetup)))
 
 -- ---- a controller
 
+-- the identity that the arguments say
 abbrev pub identityOf : ℕ → ℕ → ℕ → Identity
 identityOf oui hostscope controllerscope = record { oui = oui; hostscope = hostscope; controllerscope = controllerscope }
 
@@ -100,40 +107,47 @@ unfoldable pub freshBytes : ℕ → Identity → List ℕ
 freshBytes caps identity = pick (freshOk caps identity) (recordBytes (freshOf (capsOf caps) identity)) (zeros 300)
 
 -- a refusal leaves the record's bytes as they were
-abbrev pub recordAfter : List ℕ → Outcome → List ℕ
-recordAfter r o = pick (eqb (o .answer) success) (recordBytes (o .world .own)) r
+abbrev pub recordAfter : List ℕ → ℕ → Record → List ℕ
+recordAfter r answer after = pick (eqb answer success) (recordBytes after) r
 
 -- what a command leaves: answer, class, the record's bytes, host store and buffer
-pub record Did : Type 0 where
+pub record CommandAnswer : Type 0 where
   pub answer : ℕ
   pub class : ℕ
   pub own : List ℕ
   pub host : List ℕ
   pub buf : List ℕ
 
-abbrev pub did : ℕ → ℕ → List ℕ → List ℕ → List ℕ → Did
-did answer class own host buf = record { answer = answer; class = class; own = own; host = host; buf = buf }
+abbrev pub commandAnswer : ℕ → ℕ → List ℕ → List ℕ → List ℕ → CommandAnswer
+commandAnswer answer class own host buf = record { answer = answer; class = class; own = own; host = host; buf = buf }
 
-abbrev pub didOf : List ℕ → Outcome → Did
-didOf r o = did (o .answer) (o .class) (recordAfter r o) (o .world .host) (o .buf)
+-- what a command's outcome leaves of a record's bytes
+abbrev pub commandAnswerOf : List ℕ → Outcome → CommandAnswer
+commandAnswerOf r o = commandAnswer (o .answer) (o .class) (recordAfter r (o .answer) (o .world .own)) (o .world .host) (o .buf)
 
 -- a command on a record's bytes, host store h and controller store k
-unfoldable pub commandAt : List ℕ → List ℕ → List ℕ → Candidate → Words → List ℕ → Did
+unfoldable pub commandAt : List ℕ → List ℕ → List ℕ → Candidate → Words → List ℕ → CommandAnswer
 commandAt r h k candidate words buf =
-    pick (recordSound r) (didOf r (commandOf (world (recordAt r) h k) candidate words buf)) (did disagree 0 r h buf)
+    pick (recordIntact r)
+    (commandAnswerOf r (commandOf (world (recordAt r) h k) candidate words buf))
+    (commandAnswer disagree 0 r h buf)
 
 -- what a capture leaves: answer, the record's bytes and controller store
-pub record Took : Type 0 where
+pub record CaptureAnswer : Type 0 where
   pub answer : ℕ
   pub own : List ℕ
   pub controller : List ℕ
 
-abbrev pub took : ℕ → List ℕ → List ℕ → Took
-took answer own controller = record { answer = answer; own = own; controller = controller }
+abbrev pub captureAnswer : ℕ → List ℕ → List ℕ → CaptureAnswer
+captureAnswer answer own controller = record { answer = answer; own = own; controller = controller }
 
-abbrev pub tookOf : List ℕ → Outcome → Took
-tookOf r o = took (o .answer) (recordAfter r o) (o .world .controller)
+-- what a capture's outcome leaves of a record's bytes
+abbrev pub captureAnswerOf : List ℕ → Outcome → CaptureAnswer
+captureAnswerOf r o = captureAnswer (o .answer) (recordAfter r (o .answer) (o .world .own)) (o .world .controller)
 
 -- a capture on a record's bytes, host store h and controller store k
-unfoldable pub captureAt : List ℕ → List ℕ → List ℕ → Candidate → Took
-captureAt r h k candidate = pick (recordSound r) (tookOf r (captureOf (world (recordAt r) h k) candidate)) (took disagree r k)
+unfoldable pub captureAt : List ℕ → List ℕ → List ℕ → Candidate → CaptureAnswer
+captureAt r h k candidate =
+    pick (recordIntact r)
+    (captureAnswerOf r (captureOf (world (recordAt r) h k) candidate))
+    (captureAnswer disagree r k)

@@ -1,4 +1,4 @@
--- What a caller across the boundary may rest on: a refusal changes nothing, what is written is sound and so can be lent again, and
+-- What a caller across the boundary may rest on: a refusal changes nothing, what is written is intact and so can be lent again, and
 -- damaged capabilities are refused.
 -- Assumes nothing.
 use Prim.Native.Nat.{ℕ, _<_}
@@ -23,8 +23,11 @@ use Rattle.collection.specs.Collection.{refusalOf, actOf, lookOf, moveOf, stepO
 use Rattle.collection.specs.Steps.{refused-copy, taken-step}
 use Rattle.controller.specs.Controller.{World, world, Candidate, Outcome, commandOf, captureOf}
 use Rattle.controller.specs.Laws.{refusal-changes-nothing, capture-refusal-changes-nothing}
-use Rattle.layouts.specs.Layouts.{mostCaps, capsOf, recordAt, recordSound, stateAt, stateSound, refusal}
-use Rattle.layouts.specs.Back.{record-sound, state-sound}
+use Rattle.shared_layouts.specs.Layouts.{mostCaps, capsOf}
+use Rattle.record_layout.specs.Layout.{recordAt, recordIntact}
+use Rattle.record_layout.specs.Back.{record-intact}
+use Rattle.state_layout.specs.Layout.{stateAt, stateIntact, refusal}
+use Rattle.state_layout.specs.Back.{state-intact}
 use Rattle.boundary.specs.Boundary.{kindOf, planOf, stepAt, recordAfter, commandAt, captureAt}
 use Rattle.boundary.specs.Steps.{kept-record}
 
@@ -36,40 +39,40 @@ module _ (r h k : List ℕ) (candidate : Candidate) where
       → (commandAt r h k candidate words buf .own ≡ r) × (commandAt r h k candidate words buf .host ≡ h) × (commandAt r h k candidate words buf .buf ≡ buf)
   unfolding commandAt
   command-refusal words buf =
-      by-test (recordSound r)
+      by-test (recordIntact r)
       (λ p.
       rw p
       (λ n.
       let w = world (recordAt r) h k in
       let f = refusal-changes-nothing w candidate words buf n in
-      (sym (kept-record r (commandOf w candidate words buf) n), ap (λ (x : World). x .host) (f .0), f .1)))
+      (sym (kept-record r (commandOf w candidate words buf .answer) (commandOf w candidate words buf .world .own) n), ap (λ (x : World). x .host) (f .0), f .1)))
       (λ p. rw p (λ n. (refl, refl, refl)))
 
   -- a capture that is no success leaves the record's bytes and the controller store as lent
   pub capture-refusal : (captureAt r h k candidate .answer ≡ success → ⊥) → (captureAt r h k candidate .own ≡ r) × (captureAt r h k candidate .controller ≡ k)
   unfolding captureAt
   capture-refusal =
-      by-test (recordSound r)
+      by-test (recordIntact r)
       (λ p.
       rw p
       (λ n.
       let w = world (recordAt r) h k in
-      (sym (kept-record r (captureOf w candidate) n), ap (λ (x : World). x .controller) (capture-refusal-changes-nothing w candidate n))))
+      (sym (kept-record r (captureOf w candidate .answer) (captureOf w candidate .world .own) n), ap (λ (x : World). x .controller) (capture-refusal-changes-nothing w candidate n))))
       (λ p. rw p (λ n. (refl, refl)))
 
-sound-after : (r : List ℕ) (o : Outcome) → recordSound r ≡ true → recordSound (recordAfter r o) ≡ true
-sound-after r o s =
-    pick-cases (λ (b : List ℕ). recordSound b ≡ true) (eqb (o .answer) success) (λ e. record-sound (o .world .own)) (λ e. s)
+intact-after : (r : List ℕ) (o : Outcome) → recordIntact r ≡ true → recordIntact (recordAfter r (o .answer) (o .world .own)) ≡ true
+intact-after r o s =
+    pick-cases (λ (b : List ℕ). recordIntact b ≡ true) (eqb (o .answer) success) (λ e. record-intact (o .world .own)) (λ e. s)
 
--- a sound record stays sound
-pub command-sound : (r h k : List ℕ) (candidate : Candidate) (words : Words) (buf : List ℕ) → recordSound r ≡ true
-    → recordSound (commandAt r h k candidate words buf .own) ≡ true
+-- an intact record stays intact
+pub command-intact : (r h k : List ℕ) (candidate : Candidate) (words : Words) (buf : List ℕ) → recordIntact r ≡ true
+    → recordIntact (commandAt r h k candidate words buf .own) ≡ true
 unfolding commandAt
-command-sound r h k candidate words buf s = rw s (sound-after r (commandOf (world (recordAt r) h k) candidate words buf) s)
+command-intact r h k candidate words buf s = rw s (intact-after r (commandOf (world (recordAt r) h k) candidate words buf) s)
 
-pub capture-sound : (r h k : List ℕ) (candidate : Candidate) → recordSound r ≡ true → recordSound (captureAt r h k candidate .own) ≡ true
+pub capture-intact : (r h k : List ℕ) (candidate : Candidate) → recordIntact r ≡ true → recordIntact (captureAt r h k candidate .own) ≡ true
 unfolding captureAt
-capture-sound r h k candidate s = rw s (sound-after r (captureOf (world (recordAt r) h k) candidate) s)
+capture-intact r h k candidate s = rw s (intact-after r (captureOf (world (recordAt r) h k) candidate) s)
 
 -- ---- a step
 
@@ -94,16 +97,16 @@ module _ (s : List ℕ) (ok : Bool) (d copy : List ℕ) where
   pub step-refusal : stepAt s ok d copy .kind ≡ refusal → (stepAt s ok d copy .state ≡ s) × (stepAt s ok d copy .copy ≡ copy)
   unfolding stepAt
   step-refusal =
-      by-test (stateSound s)
+      by-test (stateIntact s)
       (λ p. rw p (λ e. (rw (eq-eqb _ refusal e), refused-copy (stateAt s) ok d copy (refused-unread e))))
       (λ p. rw p (λ e. (refl, refl)))
 
-  -- a sound state stays sound
-  pub step-sound : stateSound s ≡ true → stateSound (stepAt s ok d copy .state) ≡ true
+  -- an intact state stays intact
+  pub step-intact : stateIntact s ≡ true → stateIntact (stepAt s ok d copy .state) ≡ true
   unfolding stepAt
-  step-sound p =
+  step-intact p =
       let x = stepOf (stateAt s) ok d (length copy) in
-      rw p (pick-cases (λ (b : List ℕ). stateSound b ≡ true) (eqb (kindOf (x .next)) refusal) (λ e. p) (λ e. state-sound (x .state)))
+      rw p (pick-cases (λ (b : List ℕ). stateIntact b ≡ true) (eqb (kindOf (x .next)) refusal) (λ e. p) (λ e. state-intact (x .state)))
 
 -- ---- setup
 

@@ -26,8 +26,10 @@ use Rattle.collection.specs.declared.Next.the-variants.{Refused}
 use Rattle.collection.specs.declared.Stepped.{Stepped}
 use Rattle.collection.specs.Collection.{stepOf, copyAfter}
 use Rattle.controller.specs.Controller.{Candidate, world, Outcome, outcome, commandOf, captureOf}
-use Rattle.layouts.specs.Layouts.{mostCaps, capsOf, recordBytes, recordAt, recordSound, stateBytes, stateAt, stateSound, refusal, nextBytes, fieldsBytes}
-use Rattle.boundary.specs.Boundary.{wordsList, kindOf, noNumber, numberOf, stood, stepAt, freshOk, freshBytes, recordAfter, did, didOf, commandAt, took, tookOf, captureAt}
+use Rattle.shared_layouts.specs.Layouts.{mostCaps, capsOf, fieldsBytes}
+use Rattle.record_layout.specs.Layout.{recordBytes, recordAt, recordIntact}
+use Rattle.state_layout.specs.Layout.{stateBytes, stateAt, stateIntact, refusal, nextBytes}
+use Rattle.boundary.specs.Boundary.{wordsList, kindOf, noNumber, numberOf, stepAnswer, stateAfter, stepAnswerOf, stepAt, freshOk, freshBytes, recordAfter, commandAnswer, commandAnswerOf, commandAt, captureAnswer, captureAnswerOf, captureAt}
 
 -- ---- numbers and the host side
 
@@ -54,29 +56,24 @@ setup-is e s n k = (
 
 -- ---- a step
 
+pub kept-state : (s : List ℕ) (k : ℕ) (after : Collection) → k ≡ refusal → s ≡ stateAfter s k after
+kept-state s k after e = rw (eq-eqb k refusal e)
+
+pub next-state : (s : List ℕ) (k : ℕ) (after : Collection) {w : List ℕ} → (k ≡ refusal → ⊥) → w ≡ stateBytes after → w ≡ stateAfter s k after
+next-state s k after n e = rw (ne-eqb k refusal n) e
+
 module _ (s : List ℕ) (ok : Bool) (d copy : List ℕ) where
-  pub step-damaged : {t : Bool} {n : List ℕ} → t ≡ stateSound s → not t ≡ true → n ≡ nextBytes (Refused badSetup)
-      → stood refusal s copy n ≡ stepAt s ok d copy
+  pub step-damaged : {t : Bool} {n : List ℕ} → t ≡ stateIntact s → not t ≡ true → n ≡ nextBytes (Refused badSetup)
+      → stepAnswer refusal s copy n ≡ stepAt s ok d copy
   unfolding stepAt
   step-damaged e f n = rw (sym e ∙ not-true _ f, n)
 
-  pub step-refused : {t : Bool} {z : Collection} {x : Stepped} {after n : List ℕ} {k : ℕ} → t ≡ stateSound s → not t ≡ false
+  pub step-taken : {t : Bool} {z : Collection} {x : Stepped} {w after n : List ℕ} {k : ℕ} → t ≡ stateIntact s → not t ≡ false
       → z ≡ stateAt s → (x ≡ stepOf z ok d (length copy)) × (after ≡ copyAfter z ok d copy)
-      → n ≡ nextBytes (x .next) → k ≡ kindOf (x .next) → k ≡ refusal
-      → stood k s after n ≡ stepAt s ok d copy
+      → k ≡ kindOf (x .next) → w ≡ stateAfter s k (x .state) → n ≡ nextBytes (x .next)
+      → stepAnswer k w after n ≡ stepAt s ok d copy
   unfolding stepAt
-  step-refused e f z x n k r =
-      let q : kindOf (stepOf (stateAt s) ok d (length copy) .next) ≡ refusal = cc in
-      rw (sym e ∙ not-false _ f, q) (cc)
-
-  pub step-taken : {t : Bool} {z : Collection} {x : Stepped} {w after n : List ℕ} {k : ℕ} → t ≡ stateSound s → not t ≡ false
-      → z ≡ stateAt s → (x ≡ stepOf z ok d (length copy)) × (after ≡ copyAfter z ok d copy)
-      → n ≡ nextBytes (x .next) → k ≡ kindOf (x .next) → (k ≡ refusal → ⊥) → w ≡ stateBytes (x .state)
-      → stood k w after n ≡ stepAt s ok d copy
-  unfolding stepAt
-  step-taken e f z x n k r w =
-      let q : kindOf (stepOf (stateAt s) ok d (length copy) .next) ≡ refusal → ⊥ = λ p. r (cc) in
-      rw (sym e ∙ not-false _ f, ne-eqb (kindOf (stepOf (stateAt s) ok d (length copy) .next)) refusal q) (cc)
+  step-taken e f z x k w n = rw (sym e ∙ not-false _ f, w, k, n, x .0, x .1, z)
 
 -- ---- a fresh record
 
@@ -108,66 +105,34 @@ module _ (caps : ℕ) (i : Identity) {c : Caps} {r : Record} {t : Bool} (ec : c 
 
 -- ---- a command and a capture
 
-pub kept-record : (r : List ℕ) (o : Outcome) → (o .answer ≡ success → ⊥) → r ≡ recordAfter r o
-kept-record r o n = rw (ne-eqb (o .answer) success n)
+pub kept-record : (r : List ℕ) (answer : ℕ) (after : Record) → (answer ≡ success → ⊥) → r ≡ recordAfter r answer after
+kept-record r answer after n = rw (ne-eqb answer success n)
 
-written-record : (r : List ℕ) (o : Outcome) → o .answer ≡ success → recordBytes (o .world .own) ≡ recordAfter r o
-written-record r o e = rw (eq-eqb (o .answer) success e)
+pub next-record : (r : List ℕ) (answer : ℕ) (after : Record) {w : List ℕ} → answer ≡ success → w ≡ recordBytes after → w ≡ recordAfter r answer after
+next-record r answer after e w = rw (eq-eqb answer success e) w
 
 module _ (r h k : List ℕ) (candidate : Candidate) where
   module _ (words : Words) (buf : List ℕ) where
-    pub command-damaged : {t : Bool} → t ≡ recordSound r → not t ≡ true → did disagree 0 r h buf ≡ commandAt r h k candidate words buf
+    pub command-damaged : {t : Bool} → t ≡ recordIntact r → not t ≡ true → commandAnswer disagree 0 r h buf ≡ commandAt r h k candidate words buf
     unfolding commandAt
     command-damaged e f = rw (sym e ∙ not-true _ f)
 
-    command-sound : {t : Bool} → t ≡ recordSound r → not t ≡ false
-        → didOf r (commandOf (world (recordAt r) h k) candidate words buf) ≡ commandAt r h k candidate words buf
+    pub command-done : {t : Bool} {z y : Record} {v : Words} {answer class : ℕ} {w host out : List ℕ} → t ≡ recordIntact r → not t ≡ false
+        → z ≡ recordAt r → v ≡ words → outcome answer class (world y host k) out ≡ commandOf (world z h k) candidate v buf
+        → w ≡ recordAfter r answer y
+        → commandAnswer answer class w host out ≡ commandAt r h k candidate words buf
     unfolding commandAt
-    command-sound e f = rw (sym e ∙ not-false _ f)
+    command-done {answer = answer} {class = class} {host = host} {out = out} e f z v o w =
+        rw (sym e ∙ not-false _ f, ← z, ← v)
+        (ap (λ (x : List ℕ). commandAnswer answer class x host out) w ∙ ap (commandAnswerOf r) o)
 
-    pub command-refused : {t : Bool} {z y : Record} {v : Words} {answer class : ℕ} {host out : List ℕ} → t ≡ recordSound r → not t ≡ false
-        → z ≡ recordAt r → v ≡ words → outcome answer class (world y host k) out ≡ commandOf (world z h k) candidate v buf
-        → (answer ≡ success → ⊥)
-        → did answer class r host out ≡ commandAt r h k candidate words buf
-    command-refused {y = y} {answer = answer} {class = class} {host = host} {out = out} e f z v o n =
-        let same : outcome answer class (world y host k) out ≡ commandOf (world (recordAt r) h k) candidate words buf = cc in
-        ap (λ (x : List ℕ). did answer class x host out) (kept-record r (outcome answer class (world y host k) out) n)
-        ∙ ap (didOf r) same
-        ∙ command-sound e f
-
-    pub command-done : {t : Bool} {z y : Record} {v : Words} {answer class : ℕ} {w host out : List ℕ} → t ≡ recordSound r → not t ≡ false
-        → z ≡ recordAt r → v ≡ words → outcome answer class (world y host k) out ≡ commandOf (world z h k) candidate v buf
-        → answer ≡ success → w ≡ recordBytes y
-        → did answer class w host out ≡ commandAt r h k candidate words buf
-    command-done {y = y} {answer = answer} {class = class} {host = host} {out = out} e f z v o n w =
-        let same : outcome answer class (world y host k) out ≡ commandOf (world (recordAt r) h k) candidate words buf = cc in
-        ap (λ (x : List ℕ). did answer class x host out) (w ∙ written-record r (outcome answer class (world y host k) out) n)
-        ∙ ap (didOf r) same
-        ∙ command-sound e f
-
-  pub capture-damaged : {t : Bool} → t ≡ recordSound r → not t ≡ true → took disagree r k ≡ captureAt r h k candidate
+  pub capture-damaged : {t : Bool} → t ≡ recordIntact r → not t ≡ true → captureAnswer disagree r k ≡ captureAt r h k candidate
   unfolding captureAt
   capture-damaged e f = rw (sym e ∙ not-true _ f)
 
-  capture-sound : {t : Bool} → t ≡ recordSound r → not t ≡ false
-      → tookOf r (captureOf (world (recordAt r) h k) candidate) ≡ captureAt r h k candidate
+  pub capture-done : {t : Bool} {z y : Record} {answer class : ℕ} {w controller none : List ℕ} → t ≡ recordIntact r → not t ≡ false
+      → z ≡ recordAt r → outcome answer class (world y h controller) none ≡ captureOf (world z h k) candidate → w ≡ recordAfter r answer y
+      → captureAnswer answer w controller ≡ captureAt r h k candidate
   unfolding captureAt
-  capture-sound e f = rw (sym e ∙ not-false _ f)
-
-  pub capture-refused : {t : Bool} {z y : Record} {answer class : ℕ} {controller none : List ℕ} → t ≡ recordSound r → not t ≡ false
-      → z ≡ recordAt r → outcome answer class (world y h controller) none ≡ captureOf (world z h k) candidate → (answer ≡ success → ⊥)
-      → took answer r controller ≡ captureAt r h k candidate
-  capture-refused {y = y} {answer = answer} {class = class} {controller = controller} {none = none} e f z o n =
-      let same : outcome answer class (world y h controller) none ≡ captureOf (world (recordAt r) h k) candidate = cc in
-      ap (λ (x : List ℕ). took answer x controller) (kept-record r (outcome answer class (world y h controller) none) n)
-      ∙ ap (tookOf r) same
-      ∙ capture-sound e f
-
-  pub capture-done : {t : Bool} {z y : Record} {answer class : ℕ} {w controller none : List ℕ} → t ≡ recordSound r → not t ≡ false
-      → z ≡ recordAt r → outcome answer class (world y h controller) none ≡ captureOf (world z h k) candidate → answer ≡ success → w ≡ recordBytes y
-      → took answer w controller ≡ captureAt r h k candidate
-  capture-done {y = y} {answer = answer} {class = class} {controller = controller} {none = none} e f z o n w =
-      let same : outcome answer class (world y h controller) none ≡ captureOf (world (recordAt r) h k) candidate = cc in
-      ap (λ (x : List ℕ). took answer x controller) (w ∙ written-record r (outcome answer class (world y h controller) none) n)
-      ∙ ap (tookOf r) same
-      ∙ capture-sound e f
+  capture-done {answer = answer} {controller = controller} e f z o w =
+      rw (sym e ∙ not-false _ f, ← z) (ap (λ (x : List ℕ). captureAnswer answer x controller) w ∙ ap (captureAnswerOf r) o)

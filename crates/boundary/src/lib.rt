@@ -1,12 +1,14 @@
 // The functions of include/bumbazeel.h: thin, over what the bytes that C lends say.
 //
-// It rests on layouts for the structs and on the crates of both sides for the work. It promises each function's answer and every lent byte
+// It rests on shared_layouts, record_layout and state_layout for the structs and on the crates of both sides for the work. It promises each function's answer and every lent byte
 // afterwards, for all arguments, as an equation with the definitions that those crates' contracts cite (specs/Boundary.antt). Damaged bytes
 // are refused, and what is refused changes nothing. A struct of the header file is an array of its bytes here, and a pointer with a length
 // is a slice. No store, copy or data is moved but by the call that serves it.
+use collection::Collection;
 use collection::Next;
 use course::Plan;
 use records::Identity;
+use records::Record;
 use words::Words;
 ghost use mathlib.Core.Path.{_≡_};
 ghost use Rattle.choices.specs.Choice.{pick};
@@ -16,8 +18,9 @@ ghost use Rattle.words.specs.Words.{builtOf};
 ghost use Rattle.header.specs.Header.{answerOf, checkOf};
 ghost use Rattle.collection.specs.Collection.{setupOf};
 ghost use Rattle.controller.specs.Controller.{candidateOf};
-ghost use Rattle.layouts.specs.Layouts.{stateBytes, nextBytes, fieldsBytes};
-ghost use Rattle.boundary.specs.Boundary.{flagOf, wordsList, wordsOf, numberOf, kindOf, planOf, stood, stepAt, identityOf, freshOk, freshBytes, did, commandAt, took, captureAt};
+ghost use Rattle.shared_layouts.specs.Layouts.{fieldsBytes};
+ghost use Rattle.state_layout.specs.Layout.{stateBytes, nextBytes};
+ghost use Rattle.boundary.specs.Boundary.{flagOf, wordsList, wordsOf, numberOf, kindOf, planOf, stateAfter, stepAnswer, stepAt, identityOf, freshOk, freshBytes, recordAfter, commandAnswer, commandAt, captureAnswer, captureAt};
 
 // The number of an answer that has no NVMe status.
 const NO_NUMBER: u16 = 0xffff;
@@ -69,21 +72,24 @@ fn kind_of(next: Next) -> u8
     ensures { λ r. ⌜ r ≡ kindOf next ⌝ }
 {
     match next {
-        Next::Send(_) => layouts::SEND,
-        Next::Ended(_) => layouts::ENDED,
-        Next::Refused(_) => layouts::REFUSED,
+        Next::Send(_) => state_layout::SEND,
+        Next::Ended(_) => state_layout::ENDED,
+        Next::Refused(_) => state_layout::REFUSED,
     }
 }
 
 // Checks a header, and writes its fields, or zeros where it is bad.
 #[no_mangle]
 pub extern "C" fn bumbazeel_check(page: u8, da4s: u8, h: &[u8], fields: &mut [u8; 156]) -> u8
-    ensures { λ r. ⌜ (r ≡ answerOf (checkOf page (flagOf da4s) (now (h .entry)) .fault)) × (now (fields .exit) ≡ fieldsBytes (checkOf page (flagOf da4s) (now (h .entry)) .fields)) ⌝ }
+    ensures { λ r. ⌜
+        (r ≡ answerOf (checkOf page (flagOf da4s) (now (h .entry)) .fault))
+        × (now (fields .exit) ≡ fieldsBytes (checkOf page (flagOf da4s) (now (h .entry)) .fields))
+        ⌝ }
 {
     let x = header::check(page, da4s != 0, h);
     let found = x.fields;
     let fault = x.fault;
-    *fields = layouts::write_fields(found);
+    *fields = shared_layouts::write_fields(found);
     header::answer_of(fault)
 }
 
@@ -98,7 +104,10 @@ pub extern "C" fn bumbazeel_words(
     blocks: u32,
     words: &mut [u32; 5],
 ) -> u8
-    ensures { λ r. ⌜ (r ≡ builtOf page (flagOf create) mcda (flagOf rae) offset blocks .answer) × (now (words .exit) ≡ wordsList (builtOf page (flagOf create) mcda (flagOf rae) offset blocks .words)) ⌝ }
+    ensures { λ r. ⌜
+        (r ≡ builtOf page (flagOf create) mcda (flagOf rae) offset blocks .answer)
+        × (now (words .exit) ≡ wordsList (builtOf page (flagOf create) mcda (flagOf rae) offset blocks .words))
+        ⌝ }
 {
     let x = words::build(page, create != 0, mcda, rae != 0, offset, blocks);
     let built = x.words;
@@ -119,9 +128,13 @@ pub extern "C" fn bumbazeel_setup(
     state: &mut [u8; 56],
     next: &mut [u8; 32],
 ) -> u8
-    ensures { λ r. ⌜ (r ≡ kindOf (setupOf (planOf page create area caps chunk attempts room) .next)) × (now (state .exit) ≡ stateBytes (setupOf (planOf page create area caps chunk attempts room) .state)) × (now (next .exit) ≡ nextBytes (setupOf (planOf page create area caps chunk attempts room) .next)) ⌝ }
+    ensures { λ r. ⌜
+        (r ≡ kindOf (setupOf (planOf page create area caps chunk attempts room) .next))
+        × (now (state .exit) ≡ stateBytes (setupOf (planOf page create area caps chunk attempts room) .state))
+        × (now (next .exit) ≡ nextBytes (setupOf (planOf page create area caps chunk attempts room) .next))
+        ⌝ }
 {
-    let can = layouts::read_caps(caps);
+    let can = shared_layouts::read_caps(caps);
     let x = collection::setup(Plan {
         page,
         create: create != 0,
@@ -133,9 +146,19 @@ pub extern "C" fn bumbazeel_setup(
     });
     let begun = x.state;
     let follows = x.next;
-    *state = layouts::write_state(begun);
-    *next = layouts::write_next(follows);
+    *state = state_layout::write_state(begun);
+    *next = state_layout::write_next(follows);
     kind_of(follows)
+}
+
+// The state's bytes after a step: those of the next state, or as they were where it refuses.
+fn state_after(lent: [u8; 56], kind: u8, after: Collection) -> [u8; 56]
+    ensures { λ x. ⌜ x ≡ stateAfter lent kind after ⌝ }
+{
+    if kind == state_layout::REFUSED {
+        return lent;
+    }
+    state_layout::write_state(after)
 }
 
 // Takes a completion: writes the next state, unless it refuses, the copy, and what follows.
@@ -147,22 +170,22 @@ pub extern "C" fn bumbazeel_step(
     copy: &mut [u8],
     next: &mut [u8; 32],
 ) -> u8
-    ensures { λ r. ⌜ stood r (now (state .exit)) (now (copy .exit)) (now (next .exit)) ≡ stepAt (now (state .entry)) (flagOf ok) (now («data» .entry)) (now (copy .entry)) ⌝ }
+    ensures { λ r. ⌜
+        stepAnswer r (now (state .exit)) (now (copy .exit)) (now (next .exit))
+        ≡ stepAt (now (state .entry)) (flagOf ok) (now («data» .entry)) (now (copy .entry))
+        ⌝ }
 {
     let lent = *state;
-    if !layouts::state_sound(&lent) {
-        *next = layouts::write_next(Next::Refused(answers::BAD_SETUP));
-        return layouts::REFUSED;
+    if !state_layout::state_intact(&lent) {
+        *next = state_layout::write_next(Next::Refused(answers::BAD_SETUP));
+        return state_layout::REFUSED;
     }
-    let x = layouts::read_state(&lent).step(ok != 0, data, copy);
+    let x = state_layout::read_state(&lent).step(ok != 0, data, copy);
     let after = x.state;
     let follows = x.next;
-    *next = layouts::write_next(follows);
     let kind = kind_of(follows);
-    if kind == layouts::REFUSED {
-        return kind;
-    }
-    *state = layouts::write_state(after);
+    *state = state_after(lent, kind, after);
+    *next = state_layout::write_next(follows);
     kind
 }
 
@@ -177,22 +200,35 @@ pub extern "C" fn bumbazeel_fresh(
     controller_scope: u8,
     own: &mut [u8; 300],
 ) -> u8
-    ensures { λ r. ⌜ (r ≡ pick (freshOk caps (identityOf oui «host_scope» «controller_scope»)) success disagree) × (now (own .exit) ≡ freshBytes caps (identityOf oui «host_scope» «controller_scope»)) ⌝ }
+    ensures { λ r. ⌜
+        (r ≡ pick (freshOk caps (identityOf oui «host_scope» «controller_scope»)) success disagree)
+        × (now (own .exit) ≡ freshBytes caps (identityOf oui «host_scope» «controller_scope»))
+        ⌝ }
 {
     let fresh = records::fresh(
-        layouts::read_caps(caps),
+        shared_layouts::read_caps(caps),
         Identity {
             oui,
             hostscope: host_scope,
             controllerscope: controller_scope,
         },
     );
-    if (caps <= layouts::MOST_CAPS) & records::agrees(fresh, 0, 0) {
-        *own = layouts::write_record(fresh);
+    if (caps <= shared_layouts::MOST_CAPS) & records::agrees(fresh, 0, 0) {
+        *own = record_layout::write_record(fresh);
         return answers::SUCCESS;
     }
     *own = [0; 300];
     answers::DISAGREE
+}
+
+// The record's bytes after an answer: those of the record that a success leaves, or as they were.
+fn record_after(lent: [u8; 300], answer: u8, after: Record) -> [u8; 300]
+    ensures { λ x. ⌜ x ≡ recordAfter lent answer after ⌝ }
+{
+    if answer == answers::SUCCESS {
+        return record_layout::write_record(after);
+    }
+    lent
 }
 
 // Answers a command: writes record, host store and buffer where it succeeds, and the class.
@@ -208,15 +244,20 @@ pub extern "C" fn bumbazeel_command(
     buffer: &mut [u8],
     class: &mut u8,
 ) -> u8
-    ensures { λ r. ⌜ did r (now (class .exit)) (now (own .exit)) (now («host_store» .exit)) (now (buffer .exit)) ≡ commandAt (now (own .entry)) (now («host_store» .entry)) (now («controller_store» .entry)) (candidateOf (now (last .entry)) (now (bytes .entry)) (now (reason .entry))) (wordsOf (now (words .entry))) (now (buffer .entry)) ⌝ }
+    ensures { λ r. ⌜
+        commandAnswer r (now (class .exit)) (now (own .exit)) (now («host_store» .exit)) (now (buffer .exit))
+        ≡ commandAt (now (own .entry)) (now («host_store» .entry)) (now («controller_store» .entry))
+        (candidateOf (now (last .entry)) (now (bytes .entry)) (now (reason .entry)))
+        (wordsOf (now (words .entry))) (now (buffer .entry))
+        ⌝ }
 {
     let lent = *own;
-    if !layouts::record_sound(&lent) {
+    if !record_layout::record_intact(&lent) {
         *class = 0;
         return answers::DISAGREE;
     }
     let x = controller::command(
-        layouts::read_record(&lent),
+        record_layout::read_record(&lent),
         host_store,
         controller_store,
         *last,
@@ -225,13 +266,10 @@ pub extern "C" fn bumbazeel_command(
         words_of(*words),
         buffer,
     );
-    *class = x.class;
     let answer = x.answer;
-    if answer != answers::SUCCESS {
-        return answer;
-    }
     let after = x.own;
-    *own = layouts::write_record(after);
+    *class = x.class;
+    *own = record_after(lent, answer, after);
     answer
 }
 
@@ -245,14 +283,18 @@ pub extern "C" fn bumbazeel_capture(
     bytes: &[u8],
     reason: &[u8],
 ) -> u8
-    ensures { λ r. ⌜ took r (now (own .exit)) (now («controller_store» .exit)) ≡ captureAt (now (own .entry)) (now («host_store» .entry)) (now («controller_store» .entry)) (candidateOf (now (last .entry)) (now (bytes .entry)) (now (reason .entry))) ⌝ }
+    ensures { λ r. ⌜
+        captureAnswer r (now (own .exit)) (now («controller_store» .exit))
+        ≡ captureAt (now (own .entry)) (now («host_store» .entry)) (now («controller_store» .entry))
+        (candidateOf (now (last .entry)) (now (bytes .entry)) (now (reason .entry)))
+        ⌝ }
 {
     let lent = *own;
-    if !layouts::record_sound(&lent) {
+    if !record_layout::record_intact(&lent) {
         return answers::DISAGREE;
     }
     let taken = controller::capture(
-        layouts::read_record(&lent),
+        record_layout::read_record(&lent),
         host_store,
         controller_store,
         *last,
@@ -260,10 +302,7 @@ pub extern "C" fn bumbazeel_capture(
         reason,
     );
     let answer = taken.answer;
-    if answer != answers::SUCCESS {
-        return answer;
-    }
     let after = taken.own;
-    *own = layouts::write_record(after);
+    *own = record_after(lent, answer, after);
     answer
 }

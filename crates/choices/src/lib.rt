@@ -1,7 +1,7 @@
 // Choosing between two values, which every crate above does in place of a branch, so that its own code is a straight line.
 //
-// It rests on nothing. Its definitions are the words that all others are written in: `pick` and `smaller` (specs/Choice.antt), a row
-// of tests (specs/Tests.antt), bit fields and little-endian numbers (specs/Numbers.antt).
+// It rests on nothing. It promises that each choice is that of specs/Choice.antt. Its definitions are the words that all others are written in: `pick`,
+// `firstThat` and `smaller` (specs/Choice.antt), and a row of tests (specs/Tests.antt).
 ghost use mathlib.Core.Path.{_≡_};
 ghost use Rattle.choices.specs.Choice.{pick, smaller, larger};
 

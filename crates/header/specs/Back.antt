@@ -5,33 +5,68 @@ use mathlib.Core.Path.{_≡_, refl, sym, ap, _∙_}
 use mathlib.Core.List.{List, [], _∷_, _++_}
 use mathlib.Core.Bool.{Bool, true, false}
 use native.Mathlib.Omega.{arith}
-use lib.ListN.{length, getD, take}
+use lib.ListN.{length, getD}
 use lib.Seq.{take-all}
 use lib.Dec.{eqb}
 use Rattle.choices.specs.Choice.{pick}
-use Rattle.choices.specs.Numbers.{value-back}
 use Rattle.choices.specs.Tests.{each}
+use Rattle.copies.specs.Parts.{zeros, putAt, put-end}
+use Rattle.littleendian.specs.Numbers.{bytesOf, valueAt, reasonAt}
+use Rattle.littleendian.specs.Back.{value-back}
+use Rattle.littleendian.specs.Puts.{then}
 use Rattle.pages.specs.Pages.{hostPage, block}
 use Rattle.pages.specs.Trimmed.{LastRule, last-rule}
 use Rattle.header.specs.declared.Fields.{Fields}
 use Rattle.header.specs.declared.Fault.{Fault}
 use Rattle.header.specs.declared.Fault.the-variants.{None, Length}
-use Rattle.header.specs.Header.{marks, front, headerOf, lastAt, fieldsOf, fieldsOk, fieldFault, checkedBy, checkOf}
+use Rattle.header.specs.Header.{numbers, marks, headerOf, lastAt, fieldsOf, fieldsOk, faultless, fieldFault, noFields, checkedBy, checkOf}
 use Rattle.header.specs.Faults.{faultless-none, faultless-fields, fault-short, fault-long}
 
--- a header is its front with the reason in place of the zeros
-pub write-is : (f : Fields) (m h r : List ℕ) → m ≡ marks f → h ≡ front (f .page) (f .oui) (f .last) m → r ≡ take 384 h ++ f .reason
+-- bytes 0 to 19, from the bytes of each number
+pub numbers-are : (page oui : ℕ) (last : List ℕ) {o a b c d : List ℕ} → o ≡ bytesOf 3 oui → a ≡ bytesOf 2 (getD last 0 0)
+    → b ≡ bytesOf 2 (getD last 1 0) → c ≡ bytesOf 2 (getD last 2 0) → d ≡ bytesOf 4 (getD last 3 0)
+    → page ∷ 0 ∷ 0 ∷ 0 ∷ 0 ∷ getD o 0 0 ∷ getD o 1 0 ∷ getD o 2 0 ∷ getD a 0 0 ∷ getD a 1 0 ∷ getD b 0 0 ∷ getD b 1 0 ∷ getD c 0 0 ∷ getD c 1 0 ∷ 0 ∷ 0 ∷ getD d 0 0 ∷ getD d 1 0 ∷ getD d 2 0 ∷ getD d 3 0 ∷ []
+    ≡ numbers page oui last
+numbers-are page oui last e f g h i = rw (e, f, g, h, i)
+
+front-is : (f : Fields) {o p : List ℕ} → o ≡ putAt (zeros 512) 0 (numbers (f .page) (f .oui) (f .last)) → p ≡ putAt o 380 (marks f)
+    → p ≡ numbers (f .page) (f .oui) (f .last) ++ zeros 360 ++ marks f ++ zeros 128
+unfolding putAt
+front-is f e1 e2 = then 380 (marks f) e1 e2
+
+-- the puts that write a header follow one another, and the reason ends where the header ends
+pub write-is : (f : Fields) {n m o p r : List ℕ} → length (f .reason) ≡ 128 → n ≡ numbers (f .page) (f .oui) (f .last) → m ≡ marks f
+    → o ≡ putAt (zeros 512) 0 n → p ≡ putAt o 380 m → r ≡ putAt p 384 (f .reason)
     → r ≡ headerOf f
 unfolding headerOf
-write-is f m h r em eh er =
-    er
-    ∙ ap (λ (l : List ℕ). take 384 l ++ f .reason) eh
-    ∙ ap (λ (l : List ℕ). take 384 (front (f .page) (f .oui) (f .last) l) ++ f .reason) em
+write-is f {o = o} l en em e1 e2 e3 =
+    let front : List ℕ = numbers (f .page) (f .oui) (f .last) ++ zeros 360 ++ marks f in
+    e3
+    ∙ ap (λ (x : List ℕ). putAt x 384 (f .reason))
+    (front-is f (e1 ∙ ap (λ (x : List ℕ). putAt (zeros 512) 0 x) en) (e2 ∙ ap (λ (x : List ℕ). putAt o 380 x) em))
+    ∙ put-end (front ++ zeros 128) (f .reason) 384 (omega arith)
 
--- what the check is where its length is known: a short header's fields are zeros whatever was read
-pub check-short : (page : ℕ) (da4s : Bool) (h : List ℕ) (f : Fields) → (length h ≡ block → ⊥) → checkedBy Length f ≡ checkOf page da4s h
+-- the fields, from what each call reads
+pub fields-are : (page : ℕ) (h : List ℕ) {oui scope generation : ℕ} {last reason : List ℕ} → oui ≡ valueAt 3 5 h → last ≡ lastAt h
+    → reason ≡ reasonAt 384 h → scope ≡ pick (eqb page hostPage) (getD h 380 0) (getD h 381 0)
+    → generation ≡ pick (eqb page hostPage) (getD h 381 0) 0
+    → record { page = getD h 0 0; oui = oui; last = last; scope = scope; hostgeneration = generation; tcda = getD h 382 0; controllergeneration = getD h 383 0; reason = reason }
+    ≡ fieldsOf page h
+fields-are page h o l r s g = rw (o, l, r, s, g)
+
+-- what a check answers where the fault is known to be none, or one
+pub checked-good : (x : Fault) (f : Fields) {t : Bool} → t ≡ faultless x → t ≡ true → record { fault = x; fields = f } ≡ checkedBy x f
+checked-good x f e t = rw (sym e ∙ t)
+
+pub checked-bad : (x : Fault) (f : Fields) {t : Bool} {none : Fields} → t ≡ faultless x → t ≡ false → none ≡ noFields
+    → record { fault = x; fields = none } ≡ checkedBy x f
+checked-bad x f e t n = rw (sym e ∙ t, n)
+
+-- what the check is where its length is known
+pub check-short : (page : ℕ) (da4s : Bool) (h : List ℕ) {none : Fields} → (length h ≡ block → ⊥) → none ≡ noFields
+    → record { fault = Length; fields = none } ≡ checkOf page da4s h
 unfolding checkOf
-check-short page da4s h f n = rw (← fault-short page da4s h n)
+check-short page da4s h l n = rw (← fault-short page da4s h l, n)
 
 pub check-long : (page : ℕ) (da4s : Bool) (h : List ℕ) (f : Fields) (x : Fault)
     → length h ≡ block → f ≡ fieldsOf page h → x ≡ fieldFault page da4s f → checkedBy x f ≡ checkOf page da4s h

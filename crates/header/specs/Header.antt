@@ -4,12 +4,12 @@
 use Prim.Native.Nat.{ℕ}
 use mathlib.Core.List.{List, [], _∷_, _++_}
 use mathlib.Core.Bool.{Bool, true, false, not, _&&_, _||_}
-use lib.ListN.{length, getD, take, drop}
+use lib.ListN.{length, getD}
 use lib.Dec.{ltb, leb, eqb}
 use Rattle.choices.specs.Choice.{pick, firstThat}
-use Rattle.choices.specs.Numbers.{bytesOf, valueAt}
 use Rattle.choices.specs.Tests.{holds}
 use Rattle.copies.specs.Parts.{zeros}
+use Rattle.littleendian.specs.Numbers.{bytesOf, valueAt, reasonAt}
 use Rattle.pages.specs.Pages.{hostPage, telemetryPage, block, area2Ok, area3Ok, area4Ok, lastOk}
 use Rattle.answers.specs.Answers.{success, badHeader}
 use Rattle.header.specs.declared.Fields.{Fields}
@@ -17,9 +17,9 @@ use Rattle.header.specs.declared.Fault.{Fault}
 use Rattle.header.specs.declared.Fault.the-variants.{None, Length, Identifier, Area2, Area3, Area4, Scope, Available, Empty}
 use Rattle.header.specs.declared.Checked.{Checked}
 
--- bytes 0 to 379, by ranges as the paper gives them
-abbrev pub low : ℕ → ℕ → List ℕ → List ℕ
-low page oui last =
+-- bytes 0 to 19, by ranges as the paper gives them
+abbrev pub numbers : ℕ → ℕ → List ℕ → List ℕ
+numbers page oui last =
     (page ∷ zeros 4)  -- 0: identifier
     ++ bytesOf 3 oui  -- 7:5
     ++ bytesOf 2 (getD last 0 0)  -- 9:8
@@ -27,7 +27,6 @@ low page oui last =
     ++ bytesOf 2 (getD last 2 0)  -- 13:12
     ++ zeros 2
     ++ bytesOf 4 (getD last 3 0)  -- 19:16
-    ++ zeros 360
 
 -- bytes 380 to 383: on 07h scope and host generation, on 08h zero and scope; then TCDA and the controller generation
 abbrev pub marks : Fields → List ℕ
@@ -40,11 +39,7 @@ marks f =
 
 -- the header's 512 bytes; the reason is 511:384
 unfoldable pub headerOf : Fields → List ℕ
-headerOf f = low (f .page) (f .oui) (f .last) ++ marks f ++ f .reason
-
--- a header with zeros for its reason, bytes 380 to 383 being m
-abbrev pub front : ℕ → ℕ → List ℕ → List ℕ → List ℕ
-front page oui last m = low page oui last ++ (getD m 0 0 ∷ getD m 1 0 ∷ getD m 2 0 ∷ getD m 3 0 ∷ zeros 128)
+headerOf f = numbers (f .page) (f .oui) (f .last) ++ zeros 360 ++ marks f ++ f .reason
 
 -- ---- the way back
 
@@ -62,7 +57,7 @@ fieldsOf page h = record {
   hostgeneration = pick (eqb page hostPage) (getD h 381 0) 0;
   tcda = getD h 382 0;
   controllergeneration = getD h 383 0;
-  reason = take 128 (drop 384 h);
+  reason = reasonAt 384 h;
 }
 
 -- ---- what is at fault
@@ -132,7 +127,7 @@ unfoldable pub faultOf : ℕ → Bool → List ℕ → Fault
 faultOf page da4s h = firstThat (headerFaults page da4s h) None
 
 -- the fields of a header with a fault: it yields none
-abbrev pub noFields : Fields
+unfoldable pub noFields : Fields
 noFields = record { page = 0; oui = 0; last = zeros 4; scope = 0; hostgeneration = 0; tcda = 0; controllergeneration = 0; reason = zeros 128 }
 
 -- what a check answers of a fault and the fields read

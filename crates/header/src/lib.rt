@@ -1,15 +1,13 @@
 // The 512-byte header of the pages 07h and 08h: written from its fields, and checked and read by the host.
 //
-// It rests on choices, copies, answers and pages. It promises that the bytes written, the fields read and the fault found are those of
+// It rests on choices, copies, littleendian, answers and pages. It promises that the bytes written, the fields read and the fault found are those of
 // specs/Header.antt, that the fault is the first of its order (specs/Faults.antt), and that a header written from fields that are good is
 // checked to exactly those fields (specs/Back.antt).
 ghost use mathlib.Core.Path.{_≡_};
-ghost use mathlib.Core.List.{_++_};
-ghost use Prim.Native.Nat.{_+_, _*_};
-ghost use lib.ListN.{length, take, drop};
-ghost use Rattle.choices.specs.Choice.{pick, firstThat};
+ghost use lib.ListN.{length};
+ghost use Rattle.choices.specs.Choice.{firstThat};
 ghost use Rattle.header.specs.declared.Fault.the-variants.{None};
-ghost use Rattle.header.specs.Header.{front, marks, headerOf, lastAt, fieldsOf, faultless, answerOf, faultOrder, fieldFault, noFields, checkedBy, checkOf};
+ghost use Rattle.header.specs.Header.{numbers, marks, headerOf, lastAt, fieldsOf, faultless, answerOf, faultOrder, fieldFault, noFields, checkedBy, checkOf};
 
 // What a header says. `hostgeneration` is the host generation, which an 08h header does not have: 0 there. `controllergeneration` is the controller
 // generation.
@@ -62,39 +60,37 @@ fn marks_of(f: Fields) -> [u8; 4]
     [first, second, f.tcda, f.controllergeneration]
 }
 
-// The header with zeros for its reason, `m` being bytes 380 to 383.
-fn put_front(page: u8, oui: u32, last: [u32; 4], m: [u8; 4]) -> [u8; 512]
-    ensures { λ r. ⌜ r ≡ front page oui last m ⌝ }
+// Bytes 0 to 19.
+fn numbers_of(page: u8, oui: u32, last: [u32; 4]) -> [u8; 20]
+    ensures { λ r. ⌜ r ≡ numbers page oui last ⌝ }
 {
-    let mut h = [0u8; 512];
-    h[0] = page;
-    h[5] = (oui % 256) as u8;
-    h[6] = (oui / 256 % 256) as u8;
-    h[7] = (oui / 256 / 256 % 256) as u8;
-    h[8] = (last[0] % 256) as u8;
-    h[9] = (last[0] / 256 % 256) as u8;
-    h[10] = (last[1] % 256) as u8;
-    h[11] = (last[1] / 256 % 256) as u8;
-    h[12] = (last[2] % 256) as u8;
-    h[13] = (last[2] / 256 % 256) as u8;
-    h[16] = (last[3] % 256) as u8;
-    h[17] = (last[3] / 256 % 256) as u8;
-    h[18] = (last[3] / 256 / 256 % 256) as u8;
-    h[19] = (last[3] / 256 / 256 / 256 % 256) as u8;
-    h[380] = m[0];
-    h[381] = m[1];
-    h[382] = m[2];
-    h[383] = m[3];
-    h
-}
-
-// The first 384 bytes of `h`, then the reason.
-fn put_reason(h: [u8; 512], reason: [u8; 128]) -> [u8; 512]
-    ensures { λ r. ⌜ r ≡ take 384 h ++ reason ⌝ }
-{
-    let mut out = h;
-    copies::put(&reason, &mut out, 384);
-    out
+    let o = littleendian::bytes3(oui);
+    let a1 = littleendian::bytes2(last[0]);
+    let a2 = littleendian::bytes2(last[1]);
+    let a3 = littleendian::bytes2(last[2]);
+    let a4 = littleendian::bytes4(last[3]);
+    [
+        page,
+        0,
+        0,
+        0,
+        0,
+        o[0],
+        o[1],
+        o[2],
+        a1[0],
+        a1[1],
+        a2[0],
+        a2[1],
+        a3[0],
+        a3[1],
+        0,
+        0,
+        a4[0],
+        a4[1],
+        a4[2],
+        a4[3],
+    ]
 }
 
 // The header's 512 bytes.
@@ -103,45 +99,22 @@ pub fn write(f: Fields) -> [u8; 512]
 {
     let last = f.last;
     let reason = f.reason;
-    put_reason(put_front(f.page, f.oui, last, marks_of(f)), reason)
-}
-
-fn of2(a: u8, b: u8) -> u32
-    ensures { λ r. ⌜ r ≡ a + 256 * b ⌝ }
-{
-    (a as u32) + 256 * (b as u32)
-}
-
-fn of3(a: u8, b: u8, c: u8) -> u32
-    ensures { λ r. ⌜ r ≡ a + 256 * (b + 256 * c) ⌝ }
-{
-    (a as u32) + 256 * ((b as u32) + 256 * (c as u32))
-}
-
-fn of4(a: u8, b: u8, c: u8, d: u8) -> u32
-    ensures { λ r. ⌜ r ≡ a + 256 * (b + 256 * (c + 256 * d)) ⌝ }
-{
-    (a as u32) + 256 * ((b as u32) + 256 * ((c as u32) + 256 * (d as u32)))
+    let mut out = [0u8; 512];
+    copies::put(&numbers_of(f.page, f.oui, last), &mut out, 0);
+    copies::put(&marks_of(f), &mut out, 380);
+    littleendian::put_reason(&mut out, 384, reason);
+    out
 }
 
 fn last_at(h: &[u8]) -> [u32; 4]
     requires { ⌜ length (now h) ≡ 512 ⌝ }
     ensures { λ r. ⌜ r ≡ lastAt (now (h .entry)) ⌝ }
 {
-    let a1 = of2(h[8], h[9]);
-    let a2 = of2(h[10], h[11]);
-    let a3 = of2(h[12], h[13]);
-    let a4 = of4(h[16], h[17], h[18], h[19]);
+    let a1 = littleendian::value2_at(h, 8);
+    let a2 = littleendian::value2_at(h, 10);
+    let a3 = littleendian::value2_at(h, 12);
+    let a4 = littleendian::value4_at(h, 16);
     [a1, a2, a3, a4]
-}
-
-fn reason_at(h: &[u8]) -> [u8; 128]
-    requires { ⌜ length (now h) ≡ 512 ⌝ }
-    ensures { λ r. ⌜ r ≡ take 128 (drop 384 (now (h .entry))) ⌝ }
-{
-    let mut reason = [0u8; 128];
-    copies::put(&h[384..512], &mut reason, 0);
-    reason
 }
 
 fn fields_of(page: u8, h: &[u8]) -> Fields
@@ -150,10 +123,10 @@ fn fields_of(page: u8, h: &[u8]) -> Fields
 {
     let host = page == pages::HOST;
     let last = last_at(h);
-    let reason = reason_at(h);
+    let reason = littleendian::reason_at(h, 384);
     Fields {
         page: h[0],
-        oui: of3(h[5], h[6], h[7]),
+        oui: littleendian::value3_at(h, 5),
         last,
         scope: choices::pick_u8(host, h[380], h[381]),
         hostgeneration: choices::pick_u8(host, h[381], 0),
@@ -254,17 +227,20 @@ fn no_fields() -> Fields
     }
 }
 
-fn pick_fields(t: bool, f: Fields, g: Fields) -> Fields
-    ensures { λ r. ⌜ r ≡ pick t f g ⌝ }
-{
-    if t { f } else { g }
-}
-
 fn judged(x: Fault, f: Fields) -> Checked
     ensures { λ r. ⌜ r ≡ checkedBy x f ⌝ }
 {
-    let fields = pick_fields(faultless(x), f, no_fields());
-    Checked { fault: x, fields }
+    if faultless(x) {
+        return Checked {
+            fault: x,
+            fields: f,
+        };
+    }
+    let none = no_fields();
+    Checked {
+        fault: x,
+        fields: none,
+    }
 }
 
 // The fields of a header of the page asked for, under a DA4S, or what is at fault in it.
@@ -272,8 +248,11 @@ pub fn check(page: u8, da4s: bool, h: &[u8]) -> Checked
     ensures { λ r. ⌜ r ≡ checkOf page da4s (now (h .entry)) ⌝ }
 {
     if h.len() != pages::BLOCK {
-        let zeros = no_fields();
-        return judged(Fault::Length, zeros);
+        let none = no_fields();
+        return Checked {
+            fault: Fault::Length,
+            fields: none,
+        };
     }
     let f = fields_of(page, h);
     judged(fault_of(page, da4s, f), f)

@@ -1,7 +1,7 @@
 -- What agreement says of the numbers, and demand 2's reading back: the header that the writer makes from an agreeing record is checked
 -- by the host to exactly what it was written from, on both pages.
 -- Assumes nothing.
-use Prim.Native.Nat.{ℕ, zero, suc, _*_, _≤_, _<_}
+use Prim.Native.Nat.{ℕ, zero, suc, _*_, _^_, _≤_, _<_}
 use mathlib.Core.Path.{_≡_, refl}
 use mathlib.Core.List.{List}
 use mathlib.Core.Bool.{Bool, true, false, _||_}
@@ -84,6 +84,19 @@ pub record Sized (r : Record) : Type 0 where
   pub host-reason : length (r .host .reason) ≡ 128
   pub controller-four : length (r .controller .last) ≡ 4
   pub controller-reason : length (r .controller .reason) ≡ 128
+
+-- the ranges that the types of a record's numbers say
+pub record Ranged (r : Record) : Type 0 where
+  pub oui : r .identity .oui < 256 ^ 4
+  pub host-last : (i : ℕ) → getD (r .host .last) i 0 < 256 ^ 4
+  pub controller-last : (i : ℕ) → getD (r .controller .last) i 0 < 256 ^ 4
+  pub host-generation : r .host .generation < 256
+  pub controller-generation : r .controller .generation < 256
+
+-- all that the types of a record say
+pub record Typed (r : Record) : Type 0 where
+  pub sized : Sized r
+  pub ranged : Ranged r
 
 record Known (i : Identity) : Type 0 where
   host-scope : i .hostscope ≤ 2

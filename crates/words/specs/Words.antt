@@ -3,18 +3,22 @@
 --            bits 31:16 low half of the dword count. CDW11 bits 15:0: its high half.
 --     CDW12, CDW13: offset, low and high 32 bits. CDW14 bit 23: offset type.
 -- Assumes nothing.
-use Prim.Native.Nat.{ℕ, _+_, _-_, _*_, _/_, _%_}
+use Prim.Native.Nat.{ℕ, zero, suc, _+_, _-_, _*_, _/_, _%_, _^_}
 use mathlib.Core.List.{[], _∷_}
 use mathlib.Core.Bool.{Bool, not, _&&_, _||_}
 use lib.Dec.{leb, eqb}
 use Rattle.choices.specs.Choice.{pick}
-use Rattle.choices.specs.Numbers.{bits}
 use Rattle.choices.specs.Tests.{holds}
 use Rattle.answers.specs.Answers.{success, badSetup}
 use Rattle.pages.specs.Pages.{hostPage, controllerPage, telemetryPage, most4}
 use Rattle.words.specs.declared.Words.{Words}
 use Rattle.words.specs.declared.Command.{Command}
 use Rattle.words.specs.declared.Built.{Built}
+
+-- bits high:low of x
+abbrev pub bits : ℕ → ℕ → ℕ → ℕ
+bits high zero x = x % 2 ^ (high + 1)
+bits high (suc low) x = x / 2 ^ suc low % 2 ^ (high - low)
 
 -- ---- reading
 

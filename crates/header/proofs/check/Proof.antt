@@ -9,13 +9,8 @@ use Rattle.header.proofs.check.Tie as tie
 no-fields-requires : tie.Need-no-fields-requires
 no-fields-requires c κs = search needs
 
-judged-requires : tie.Need-judged-requires
-judged-requires c κs = search needs
-
 returns : tie.Need-returns
-returns c =
-    let a = c .before .before .before .before .args in
-    c .judged .ensures ∙ check-short (a .page) (a .da4s) (a .h .now) (c .before .no-fields .result) (c .before .before .if1 .taken)
+returns c = let a = c .before .before .before .args in check-short (a .page) (a .da4s) (a .h .now) (c .before .if1 .taken) (c .no-fields .ensures)
 
 fields-of-requires : tie.Need-fields-of-requires
 fields-of-requires c κs = search needs
@@ -23,13 +18,13 @@ fields-of-requires c κs = search needs
 fault-of-requires : tie.Need-fault-of-requires
 fault-of-requires c κs = search needs
 
-judged-requires-2 : tie.Need-judged-requires-2
-judged-requires-2 c κs = search needs
+judged-requires : tie.Need-judged-requires
+judged-requires c κs = search needs
 
 returns-2 : tie.Need-returns-2
 returns-2 c =
     let a = c .before .before .before .before .before .args in
-    c .judged2 .ensures
+    c .judged .ensures
     ∙ check-long (a .page) (a .da4s) (a .h .now) (c .before .before .fields-of .result) (c .before .fault-of .result)
     (c .before .before .before .if1 .left) (c .before .before .fields-of .ensures) (c .before .fault-of .ensures)
 
@@ -38,9 +33,8 @@ check-spec =
     tie.close
     (tie.spec
     no-fields-requires
-    judged-requires
     returns
     fields-of-requires
     fault-of-requires
-    judged-requires-2
+    judged-requires
     returns-2)

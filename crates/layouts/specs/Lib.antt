@@ -1,3 +1,0 @@
-pub mod Layouts
-pub mod Steps
-pub mod Back

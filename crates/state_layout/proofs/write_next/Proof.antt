@@ -1,0 +1,65 @@
+-- `state_layout::write_next` meets its contract: each arm gives the definition's parts.
+-- Assumes nothing.
+use mathlib.Core.Path.{_∙_}
+use borrow.Author.Needs.{needs}
+use Rattle.state_layout.specs.Layout.{nextBytes}
+use Rattle.state_layout.proofs.write_next.Statement.{statement}
+use Rattle.state_layout.proofs.write_next.Tie as tie
+
+enum-known-next : tie.Need-enum-known-next
+enum-known-next c = search needs
+
+next-parts-requires : tie.Need-next-parts-requires
+next-parts-requires c κs = search needs
+
+enum-known-next-2 : tie.Need-enum-known-next-2
+enum-known-next-2 c = search needs
+
+bit-requires : tie.Need-bit-requires
+bit-requires c κs = search needs
+
+no-words-requires : tie.Need-no-words-requires
+no-words-requires c κs = search needs
+
+next-parts-requires-2 : tie.Need-next-parts-requires-2
+next-parts-requires-2 c κs = search needs
+
+enum-known-next-3 : tie.Need-enum-known-next-3
+enum-known-next-3 c = search needs
+
+no-words-requires-2 : tie.Need-no-words-requires-2
+no-words-requires-2 c κs = search needs
+
+next-parts-requires-3 : tie.Need-next-parts-requires-3
+next-parts-requires-3 c κs = search needs
+
+returns : tie.Need-returns
+unfolding nextBytes
+returns c = c .next-parts .ensures ∙ rw (c .before .before .next .given .1)
+
+returns-2 : tie.Need-returns-2
+unfolding nextBytes
+returns-2 c =
+    let back4 = c .before .before .before .before in
+    c .next-parts2 .ensures ∙ rw (c .before .before .bit .ensures .0, c .before .no-words .ensures, back4 .next2 .given .1)
+
+returns-3 : tie.Need-returns-3
+unfolding nextBytes
+returns-3 c = c .next-parts3 .ensures ∙ rw (c .before .no-words2 .ensures, c .before .before .before .next3 .given .1)
+
+pub write-next-spec : {M : Type 1} → statement M
+write-next-spec =
+    tie.close
+    (tie.spec
+    enum-known-next
+    next-parts-requires
+    enum-known-next-2
+    bit-requires
+    no-words-requires
+    next-parts-requires-2
+    enum-known-next-3
+    no-words-requires-2
+    next-parts-requires-3
+    returns
+    returns-2
+    returns-3)
