@@ -32,8 +32,11 @@ PROVED := crates.txt $(wildcard crates/*/src/*.rt crates/*/specs/*.antt crates/*
 
 build/libbumbazeel.a: $(PROVED)
 	@mkdir -p build
-	rt staticlib boundary
-	cp target/staticlib/libboundary.a $@
+	rt staticlib host_boundary
+	rt staticlib controller_boundary
+	cd build && $(AR) x ../target/staticlib/libhost_boundary.a && $(AR) x ../target/staticlib/libcontroller_boundary.a
+	rm -f $@
+	$(AR) rcs $@ build/host_boundary.o build/controller_boundary.o
 
 build/libbumbazeel.so: build/libbumbazeel.a program/exports.map Makefile
 	$(CC) $(CFLAGS) $(LDFLAGS) -shared -Wl,-soname,$(SONAME) -Wl,--version-script=program/exports.map -Wl,-z,noexecstack -Wl,-z,defs \

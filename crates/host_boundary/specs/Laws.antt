@@ -1,0 +1,70 @@
+-- What a caller across the boundary may rest on: a refusal changes nothing, a state that is written is intact and so can be lent again, and
+-- damaged capabilities are refused.
+-- Assumes nothing.
+use Prim.Native.Nat.{ℕ, _<_}
+use mathlib.Core.Path.{_≡_, refl, sym, ap, _∙_}
+use mathlib.Core.List.{List}
+use mathlib.Core.Bool.{Bool, true}
+use native.Mathlib.Omega.{arith}
+use lib.ListN.{length}
+use lib.Dec.{eqb}
+use borrow.Author.Tests.{lt-leb, eq-eqb}
+use Rattle.choices.specs.Choice.{pick-cases}
+use Rattle.choices.specs.Tests.{holds, each, by-test, clash, and-left}
+use Rattle.answers.specs.Answers.{success, badSetup}
+use Rattle.course.specs.declared.Seen.{Seen}
+use Rattle.course.specs.declared.Move.{Move}
+use Rattle.course.specs.declared.Move.the-variants.{Fail, Open, More, Skip, Acknowledge, Done}
+use Rattle.course.specs.Course.{planTests, setupAnswer}
+use Rattle.collection.specs.declared.Collection.{Collection}
+use Rattle.collection.specs.declared.Stepped.{Stepped}
+use Rattle.collection.specs.Collection.{refusalOf, actOf, lookOf, moveOf, stepOf}
+use Rattle.collection.specs.Steps.{refused-copy, taken-step}
+use Rattle.shared_layouts.specs.Layouts.{mostCaps, capsOf}
+use Rattle.state_layout.specs.Layout.{stateAt, stateIntact, refusal}
+use Rattle.state_layout.specs.Back.{state-intact}
+use Rattle.host_boundary.specs.Boundary.{kindOf, planOf, stepAt}
+
+-- what a completion calls for is no refusal
+act-kind : (s : Collection) (h : Seen) (m : Move) → kindOf (actOf s h m .stepped .next) ≡ refusal → ⊥
+unfolding actOf
+act-kind s h (Fail answer next) e = omega arith
+act-kind s h (Open next) e = omega arith
+act-kind s h (More at) e = omega arith
+act-kind s h Skip e = omega arith
+act-kind s h Acknowledge e = omega arith
+act-kind s h (Done newer) e = omega arith
+
+module _ (s : List ℕ) (ok : Bool) (d copy : List ℕ) where
+  refused-unread : kindOf (stepOf (stateAt s) ok d (length copy) .next) ≡ refusal
+      → refusalOf (stateAt s) ok (length d) (length copy) ≡ success → ⊥
+  refused-unread e q =
+      act-kind (stateAt s) (lookOf (stateAt s) d) (moveOf (stateAt s) ok (lookOf (stateAt s) d))
+      (ap (λ (x : Stepped). kindOf (x .next)) (sym (taken-step (stateAt s) ok d (length copy) q)) ∙ e)
+
+  -- a refused step leaves the state's bytes and the copy as lent
+  pub step-refusal : stepAt s ok d copy .kind ≡ refusal → (stepAt s ok d copy .state ≡ s) × (stepAt s ok d copy .copy ≡ copy)
+  unfolding stepAt
+  step-refusal =
+      by-test (stateIntact s)
+      (λ p. rw p (λ e. (rw (eq-eqb _ refusal e), refused-copy (stateAt s) ok d copy (refused-unread e))))
+      (λ p. rw p (λ e. (refl, refl)))
+
+  -- an intact state stays intact
+  pub step-intact : stateIntact s ≡ true → stateIntact (stepAt s ok d copy .state) ≡ true
+  unfolding stepAt
+  step-intact p =
+      let x = stepOf (stateAt s) ok d (length copy) in
+      rw p (pick-cases (λ (b : List ℕ). stateIntact b ≡ true) (eqb (kindOf (x .next)) refusal) (λ e. p) (λ e. state-intact (x .state)))
+
+-- ---- setup
+
+-- setup refuses capabilities over 31 with 13
+pub damaged-refused : (page create area caps chunk attempts room : ℕ) → mostCaps < caps
+    → setupAnswer (planOf page create area caps chunk attempts room) ≡ badSetup
+unfolding setupAnswer capsOf
+damaged-refused page create area caps chunk attempts room h =
+    let p = planOf page create area caps chunk attempts room in
+    by-test (holds (planTests p))
+    (λ t. clash {t = p .caps .extended} (and-left _ _ (each (planTests p) t 5)) (rw (lt-leb caps mostCaps h)))
+    (λ f. rw f)

@@ -1,0 +1,144 @@
+// The host's functions of include/bumbazeel.h: thin, over what the bytes that C lends say.
+//
+// It rests on shared_layouts and state_layout for the structs, and on header, words and collection for the work. It promises each
+// function's answer and every lent byte afterwards, for all arguments, as an equation with the definitions that those crates' contracts
+// cite (specs/Boundary.antt). A damaged state is refused, and what is refused changes nothing (specs/Laws.antt). A struct of the header
+// file is an array of its bytes here, and a pointer with a length is a slice. No copy or data is moved but by the call that serves it.
+use collection::Collection;
+use collection::Next;
+use course::Plan;
+use words::Words;
+ghost use mathlib.Core.Path.{_≡_};
+ghost use Rattle.words.specs.Words.{builtOf};
+ghost use Rattle.header.specs.Header.{answerOf, checkOf};
+ghost use Rattle.collection.specs.Collection.{setupOf};
+ghost use Rattle.shared_layouts.specs.Layouts.{fieldsBytes};
+ghost use Rattle.state_layout.specs.Layout.{stateBytes, nextBytes};
+ghost use Rattle.host_boundary.specs.Boundary.{flagOf, wordsList, kindOf, planOf, stateAfter, stepAnswer, stepAt};
+
+fn words_list(w: Words) -> [u32; 5]
+    ensures { λ r. ⌜ r ≡ wordsList w ⌝ }
+{
+    [w.cdw10, w.cdw11, w.cdw12, w.cdw13, w.cdw14]
+}
+
+fn kind_of(next: Next) -> u8
+    ensures { λ r. ⌜ r ≡ kindOf next ⌝ }
+{
+    match next {
+        Next::Send(_) => state_layout::SEND,
+        Next::Ended(_) => state_layout::ENDED,
+        Next::Refused(_) => state_layout::REFUSED,
+    }
+}
+
+// Checks a header, and writes its fields, or zeros where it is bad.
+#[no_mangle]
+pub extern "C" fn bumbazeel_check(page: u8, da4s: u8, h: &[u8], fields: &mut [u8; 156]) -> u8
+    ensures { λ r. ⌜
+        (r ≡ answerOf (checkOf page (flagOf da4s) (now (h .entry)) .fault))
+        × (now (fields .exit) ≡ fieldsBytes (checkOf page (flagOf da4s) (now (h .entry)) .fields))
+        ⌝ }
+{
+    let x = header::check(page, da4s != 0, h);
+    let found = x.fields;
+    let fault = x.fault;
+    *fields = shared_layouts::write_fields(found);
+    header::answer_of(fault)
+}
+
+// Builds the words of a command.
+#[no_mangle]
+pub extern "C" fn bumbazeel_words(
+    page: u8,
+    create: u8,
+    mcda: u8,
+    rae: u8,
+    offset: u32,
+    blocks: u32,
+    words: &mut [u32; 5],
+) -> u8
+    ensures { λ r. ⌜
+        (r ≡ builtOf page (flagOf create) mcda (flagOf rae) offset blocks .answer)
+        × (now (words .exit) ≡ wordsList (builtOf page (flagOf create) mcda (flagOf rae) offset blocks .words))
+        ⌝ }
+{
+    let x = words::build(page, create != 0, mcda, rae != 0, offset, blocks);
+    let built = x.words;
+    *words = words_list(built);
+    x.answer
+}
+
+// Begins a collection: writes its state and what follows.
+#[no_mangle]
+pub extern "C" fn bumbazeel_setup(
+    page: u8,
+    create: u8,
+    area: u8,
+    caps: u8,
+    chunk: u32,
+    attempts: u32,
+    room: usize,
+    state: &mut [u8; 56],
+    next: &mut [u8; 32],
+) -> u8
+    ensures { λ r. ⌜
+        (r ≡ kindOf (setupOf (planOf page create area caps chunk attempts room) .next))
+        × (now (state .exit) ≡ stateBytes (setupOf (planOf page create area caps chunk attempts room) .state))
+        × (now (next .exit) ≡ nextBytes (setupOf (planOf page create area caps chunk attempts room) .next))
+        ⌝ }
+{
+    let can = shared_layouts::read_caps(caps);
+    let x = collection::setup(Plan {
+        page,
+        create: create != 0,
+        area,
+        chunk,
+        attempts,
+        room,
+        caps: can,
+    });
+    let begun = x.state;
+    let follows = x.next;
+    *state = state_layout::write_state(begun);
+    *next = state_layout::write_next(follows);
+    kind_of(follows)
+}
+
+// The state's bytes after a step: those of the next state, or as they were where it refuses.
+fn state_after(lent: [u8; 56], kind: u8, after: Collection) -> [u8; 56]
+    ensures { λ x. ⌜ x ≡ stateAfter lent kind after ⌝ }
+{
+    if kind == state_layout::REFUSED {
+        return lent;
+    }
+    state_layout::write_state(after)
+}
+
+// Takes a completion: writes the next state, unless it refuses, the copy, and what follows.
+#[no_mangle]
+pub extern "C" fn bumbazeel_step(
+    state: &mut [u8; 56],
+    ok: u8,
+    data: &[u8],
+    copy: &mut [u8],
+    next: &mut [u8; 32],
+) -> u8
+    ensures { λ r. ⌜
+        stepAnswer r (now (state .exit)) (now (copy .exit)) (now (next .exit))
+        ≡ stepAt (now (state .entry)) (flagOf ok) (now («data» .entry)) (now (copy .entry))
+        ⌝ }
+{
+    let lent = *state;
+    if !state_layout::state_intact(&lent) {
+        *next = state_layout::write_next(Next::Refused(answers::BAD_SETUP));
+        return state_layout::REFUSED;
+    }
+    let x = state_layout::read_state(&lent).step(ok != 0, data, copy);
+    let after = x.state;
+    let follows = x.next;
+    let kind = kind_of(follows);
+    *state = state_after(lent, kind, after);
+    *next = state_layout::write_next(follows);
+    kind
+}
