@@ -1,14 +1,22 @@
--- What the code's puts come to, one after another.
+-- What the code's calls come to, one after another.
 -- Assumes nothing.
 use Prim.Native.Nat.{ℕ}
 use mathlib.Core.Path.{_≡_, ap, subst, _∙_}
 use mathlib.Core.List.{List, _∷_}
+use mathlib.Core.Bool.{_&&_, _||_}
+use lib.ListN.{getD}
+use lib.Dec.{leb, eqb}
+use Rattle.choices.specs.Tests.{holds}
 use Rattle.copies.specs.Parts.{zeros, putAt}
-use Rattle.littleendian.specs.Numbers.{bytesOf, lastBytes}
+use Rattle.littleendian.specs.Numbers.{bytesOf, valueAt, lastBytes, lastAt}
 use Rattle.littleendian.specs.Puts.{then}
+use Rattle.pages.specs.declared.Caps.{Caps}
 use Rattle.words.specs.declared.Words.{Words}
+use Rattle.course.specs.declared.Plan.{Plan}
+use Rattle.course.specs.declared.Phase.{Phase}
 use Rattle.collection.specs.declared.Collection.{Collection}
-use Rattle.state_layout.specs.Layout.{chunkStart, stateMarks, stateBytes, nextParts}
+use Rattle.shared_layouts.specs.Layouts.{mostCaps, capsOf}
+use Rattle.state_layout.specs.Layout.{chunkStart, phaseOf, stateMarks, stateBytes, planAt, stateAt, stateIntact, nextParts}
 
 -- what follows a step
 pub next-is : (kind answer newer : ℕ) (w : Words) (count : ℕ) {p q r s t u : List ℕ}
@@ -45,3 +53,24 @@ state-is s {r = r} {t = t} em es e1 e2 e3 e4 e5 e6 e7 e8 =
     e6)
     e7)
     e8
+
+-- ---- reading
+
+pub plan-is : (b : List ℕ) {caps : Caps} {chunk attempts room : ℕ} → caps ≡ capsOf (getD b 4 0) → chunk ≡ valueAt 4 8 b → attempts ≡ valueAt 4 12 b
+    → room ≡ valueAt 8 24 b
+    → record { page = getD b 1 0; create = eqb (getD b 2 0) 1; area = getD b 3 0; chunk = chunk; attempts = attempts; room = room; caps = caps }
+    ≡ planAt b
+plan-is b p c n r = rw (p, c, n, r)
+
+pub read-is : (b : List ℕ) {plan : Plan} {phase : Phase} {start attempt count : ℕ} {last : List ℕ} → plan ≡ planAt b
+    → start ≡ valueAt 4 20 b → phase ≡ phaseOf (getD b 0 0) start → attempt ≡ valueAt 4 16 b → count ≡ valueAt 8 32 b → last ≡ lastAt 40 b
+    → record { plan = plan; phase = phase; attempt = attempt; count = count; generation = getD b 5 0; last = last } ≡ stateAt b
+unfolding stateAt
+read-is b p s f a c l = rw (p, f, s, a, c, l)
+
+-- the tests, the block where a chunk starts being read apart
+pub intact-is : (b : List ℕ) {start : ℕ} → start ≡ valueAt 4 20 b
+    → leb (getD b 0 0) 5 && leb (getD b 2 0) 1 && leb (getD b 4 0) mostCaps && eqb (getD b 6 0) 0 && eqb (getD b 7 0) 0 && (eqb (getD b 0 0) 1 || eqb start 0)
+    ≡ stateIntact b
+unfolding stateIntact holds
+intact-is b e = rw e

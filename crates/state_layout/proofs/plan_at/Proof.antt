@@ -1,6 +1,7 @@
 -- `state_layout::plan_at` meets its contract: each field is read from the bytes that the definition names.
 -- Assumes nothing.
 use borrow.Author.Needs.{needs}
+use Rattle.state_layout.specs.Steps.{plan-is}
 use Rattle.state_layout.proofs.plan_at.Statement.{statement}
 use Rattle.state_layout.proofs.plan_at.Tie as tie
 
@@ -32,7 +33,9 @@ returns : tie.Need-returns
 returns c =
     let back4 = c .before .before .before .before in
     let back9 = back4 .before .before .before .before .before in
-    rw (back9 .read-caps .ensures, back4 .value4-at .ensures, c .before .before .value4-at2 .ensures, c .value8-at .ensures)
+    let back11 = back9 .before .before in
+    plan-is (back11 .args .b .now) (back9 .read-caps .ensures) (back4 .value4-at .ensures) (c .before .before .value4-at2 .ensures)
+    (c .value8-at .ensures)
 
 pub plan-at-spec : {M : Type 1} → statement M
 plan-at-spec =

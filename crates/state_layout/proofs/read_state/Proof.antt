@@ -1,7 +1,7 @@
 -- `state_layout::read_state` meets its contract: each field is read from the bytes that the definition names.
 -- Assumes nothing.
 use borrow.Author.Needs.{needs}
-use Rattle.state_layout.specs.Layout.{stateAt}
+use Rattle.state_layout.specs.Steps.{read-is}
 use Rattle.state_layout.proofs.read_state.Statement.{statement}
 use Rattle.state_layout.proofs.read_state.Tie as tie
 
@@ -30,15 +30,15 @@ element-copy-out-t7 : tie.Need-element-copy-out-t7
 element-copy-out-t7 c = search needs
 
 returns : tie.Need-returns
-unfolding stateAt
 returns c =
     let back3 = c .before .before .before in
     let back5 = back3 .before .before in
     let back7 = back5 .before .before in
     let back8 = back7 .before in
     let back11 = back8 .before .before .before in
-    rw
-    (back11 .plan-at .ensures, back7 .phase-of .ensures, back8 .value4-at .ensures, back5 .last-at .ensures, back3 .value4-at2 .ensures, c .before .value8-at .ensures)
+    let back12 = back11 .before in
+    read-is (back12 .args .b .now) (back11 .plan-at .ensures) (back8 .value4-at .ensures) (back7 .phase-of .ensures)
+    (back3 .value4-at2 .ensures) (c .before .value8-at .ensures) (back5 .last-at .ensures)
 
 pub read-state-spec : {M : Type 1} → statement M
 read-state-spec =

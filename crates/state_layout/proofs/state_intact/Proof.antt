@@ -1,8 +1,7 @@
 -- `state_layout::state_intact` meets its contract: the chain of tests is the row of tests.
 -- Assumes nothing.
 use borrow.Author.Needs.{needs}
-use Rattle.choices.specs.Tests.{holds}
-use Rattle.state_layout.specs.Layout.{stateIntact}
+use Rattle.state_layout.specs.Steps.{intact-is}
 use Rattle.state_layout.proofs.state_intact.Statement.{statement}
 use Rattle.state_layout.proofs.state_intact.Tie as tie
 
@@ -28,8 +27,9 @@ value4-at-requires : tie.Need-value4-at-requires
 value4-at-requires c κs = search needs
 
 returns : tie.Need-returns
-unfolding stateIntact holds
-returns c = cc
+returns c =
+    let back8 = c .before .before .before .before .before .before .before .before in
+    intact-is (back8 .args .b .now) (c .value4-at .ensures)
 
 pub state-intact-spec : {M : Type 1} → statement M
 state-intact-spec =
