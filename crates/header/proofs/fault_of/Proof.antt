@@ -22,8 +22,13 @@ first-fault-requires c κs = search needs
 
 returns : tie.Need-returns
 returns c =
-    let a = c .before .before .before .before .before .before .before .before .before .args in
-    fault-is (a .page) (a .da4s) (a .f) (c .before .before .before .before .before .before .area2-ok .ensures) (c .before .before .before .before .before .area3-ok .ensures) (c .before .before .before .before .area4-ok .ensures) (c .first-fault .ensures)
+    let back4 = c .before .before .before .before in
+    let back5 = back4 .before in
+    let back6 = back5 .before in
+    let back9 = back6 .before .before .before in
+    let a = back9 .args in
+    fault-is (a .page) (a .da4s) (a .f) (back6 .area2-ok .ensures) (back5 .area3-ok .ensures) (back4 .area4-ok .ensures)
+    (c .first-fault .ensures)
 
 pub fault-of-spec : {M : Type 1} → statement M
 fault-of-spec =
