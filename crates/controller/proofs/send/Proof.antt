@@ -1,5 +1,6 @@
--- `controller::send` meets its contract: the header served is that of the record's fields.
+-- `controller::send` meets its contract: the page's bytes are served from its header and store.
 -- Assumes nothing.
+use mathlib.Core.Path.{_∙_}
 use borrow.Author.Needs.{needs}
 use Rattle.controller.proofs.send.Statement.{statement}
 use Rattle.controller.proofs.send.Tie as tie
@@ -20,7 +21,7 @@ same-length : tie.Need-same-length
 same-length c = search needs
 
 returns : tie.Need-returns
-returns c = cc
+returns c = c .before .before .serve .ensures ∙ rw (c .before .before .before .before .blocks2 .ensures, c .before .before .before .before .before .write .ensures, c .before .before .before .before .before .before .before .fields .ensures)
 
 pub send-spec : {M : Type 1} → statement M
 send-spec =

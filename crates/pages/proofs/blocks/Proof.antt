@@ -16,7 +16,7 @@ pick-u32-requires c κs = search needs
 
 returns : tie.Need-returns
 unfolding blocksOf
-returns c = cc
+returns c = c .pick-u32 .ensures
 
 pub blocks-spec : {M : Type 1} → statement M
 blocks-spec =

@@ -1,5 +1,6 @@
 -- `pages::greatest` meets its contract: each choice is the definition's.
 -- Assumes nothing.
+use mathlib.Core.Path.{_∙_}
 use borrow.Author.Needs.{needs}
 use Rattle.pages.specs.Pages.{greatestOf}
 use Rattle.pages.proofs.greatest.Statement.{statement}
@@ -28,7 +29,7 @@ larger-u32-requires-3 c κs = search needs
 
 returns : tie.Need-returns
 unfolding greatestOf
-returns c = cc
+returns c = c .larger-u323 .ensures ∙ rw (c .before .larger-u322 .ensures, c .before .before .larger-u32 .ensures)
 
 pub greatest-spec : {M : Type 1} → statement M
 greatest-spec =

@@ -1,5 +1,6 @@
 -- `pages::last_of` meets its contract: each choice is the definition's.
 -- Assumes nothing.
+use mathlib.Core.Path.{_∙_}
 use borrow.Author.Needs.{needs}
 use Rattle.pages.proofs.last_of.Statement.{statement}
 use Rattle.pages.proofs.last_of.Tie as tie
@@ -26,7 +27,7 @@ pick-u32-requires-3 : tie.Need-pick-u32-requires-3
 pick-u32-requires-3 c κs = search needs
 
 returns : tie.Need-returns
-returns c = cc
+returns c = c .pick-u323 .ensures ∙ rw (c .before .pick-u322 .ensures, c .before .before .pick-u32 .ensures)
 
 pub last-of-spec : {M : Type 1} → statement M
 last-of-spec =

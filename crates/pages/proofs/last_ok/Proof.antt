@@ -17,7 +17,7 @@ area4-ok-requires c κs = search needs
 
 returns : tie.Need-returns
 unfolding lastOk holds
-returns c = cc
+returns c = rw (c .area4-ok .ensures, c .before .area3-ok .ensures, c .before .before .area2-ok .ensures)
 
 pub last-ok-spec : {M : Type 1} → statement M
 last-ok-spec = tie.close (tie.spec area2-ok-requires area3-ok-requires area4-ok-requires returns)

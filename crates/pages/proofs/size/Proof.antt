@@ -19,7 +19,7 @@ mul-result c = search needs
 
 returns : tie.Need-returns
 unfolding sizeOf
-returns c = cc
+returns c = rw (c .blocks2 .ensures)
 
 pub size-spec : {M : Type 1} → statement M
 size-spec = tie.close (tie.spec blocks-requires cast-result add-result mul-result returns)

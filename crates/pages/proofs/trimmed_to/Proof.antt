@@ -34,7 +34,7 @@ pick-u32-requires c κs = search needs
 
 returns : tie.Need-returns
 unfolding trimmedTo
-returns c = cc
+returns c = rw (c .pick-u32 .ensures, c .before .last-of4 .ensures, c .before .before .smaller-u324 .ensures, c .before .before .before .last-of3 .ensures, c .before .before .before .before .smaller-u323 .ensures, c .before .before .before .before .before .last-of2 .ensures, c .before .before .before .before .before .before .smaller-u322 .ensures, c .before .before .before .before .before .before .before .last-of .ensures, c .before .before .before .before .before .before .before .before .smaller-u32 .ensures)
 
 pub trimmed-to-spec : {M : Type 1} → statement M
 trimmed-to-spec =

@@ -17,7 +17,7 @@ identity-ok-requires c κs = search needs
 
 returns : tie.Need-returns
 unfolding agreesWith holds
-returns c = cc
+returns c = rw (c .identity-ok .ensures, c .before .controller-ok .ensures, c .before .before .store-ok .ensures)
 
 pub agrees-spec : {M : Type 1} → statement M
 agrees-spec = tie.close (tie.spec store-ok-requires controller-ok-requires identity-ok-requires returns)

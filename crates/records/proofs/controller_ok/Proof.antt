@@ -17,7 +17,7 @@ greatest-requires c κs = search needs
 
 returns : tie.Need-returns
 unfolding controllerOk holds
-returns c = cc
+returns c = rw (c .greatest .ensures, c .before .store-ok .ensures)
 
 pub controller-ok-spec : {M : Type 1} → statement M
 controller-ok-spec = tie.close (tie.spec array-read-a3 store-ok-requires greatest-requires returns)

@@ -20,7 +20,7 @@ mul-result c = search needs
 
 returns : tie.Need-returns
 unfolding storeOk holds
-returns c = cc
+returns c = rw (c .greatest .ensures, c .before .last-ok .ensures)
 
 pub store-ok-spec : {M : Type 1} → statement M
 store-ok-spec =

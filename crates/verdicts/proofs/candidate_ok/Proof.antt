@@ -44,7 +44,7 @@ in-bytes-requires-2 c κs = search needs
 
 returns : tie.Need-returns
 unfolding candidateOk holds
-returns c = cc
+returns c = rw (c .in-bytes2 .ensures, c .before .in-bytes .ensures)
 
 pub candidate-ok-spec : {M : Type 1} → statement M
 candidate-ok-spec =

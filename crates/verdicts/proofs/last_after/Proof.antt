@@ -1,5 +1,6 @@
--- `verdicts::last_after` meets its contract: each choice is the definition's.
+-- `verdicts::last_after` meets its contract: the two choices are the definition's.
 -- Assumes nothing.
+use mathlib.Core.Path.{_∙_}
 use borrow.Author.Needs.{needs}
 use Rattle.verdicts.specs.Verdicts.{lastAfter}
 use Rattle.verdicts.proofs.last_after.Statement.{statement}
@@ -19,7 +20,7 @@ pick-four-requires-2 c κs = search needs
 
 returns : tie.Need-returns
 unfolding lastAfter
-returns c = cc
+returns c = c .pick-four2 .ensures ∙ rw (c .before .pick-four .ensures, c .before .before .before .trim .ensures)
 
 pub last-after-spec : {M : Type 1} → statement M
 last-after-spec =

@@ -1,6 +1,6 @@
--- `verdicts::on_capture` meets its contract: with no test but the first and the fourth, the order for a command is the order
--- for a capture.
+-- `verdicts::on_capture` meets its contract: the order is a command's, with the two tests that a capture has.
 -- Assumes nothing.
+use mathlib.Core.Path.{_∙_}
 use borrow.Author.Needs.{needs}
 use Rattle.verdicts.specs.Verdicts.{captureAnswer}
 use Rattle.verdicts.proofs.on_capture.Statement.{statement}
@@ -26,7 +26,7 @@ first-requires c κs = search needs
 
 returns : tie.Need-returns
 unfolding captureAnswer
-returns c = cc
+returns c = c .first .ensures ∙ rw (c .before .agrees .ensures, c .before .before .candidate-ok .ensures, c .before .before .before .last-of .ensures, c .before .before .before .before .top .ensures)
 
 pub on-capture-spec : {M : Type 1} → statement M
 on-capture-spec =
