@@ -7,6 +7,8 @@ use mathlib.Core.List.{List, [], _∷_}
 use mathlib.Core.Bool.{Bool, true, false, not, _&&_, _||_}
 use native.Mathlib.Omega.{arith}
 use lib.ListN.{getD}
+use lib.Dec.{eqb}
+use borrow.Author.Tests.{eqb-true, eqb-false}
 
 -- the test t and all of the row
 abbrev from : Bool → List Bool → Bool
@@ -27,6 +29,10 @@ pub by-test : {A : Type 0} (t : Bool) → (t ≡ true → A) → (t ≡ false �
 by-test true f g = f refl
 by-test false f g = g refl
 
+-- two numbers are the same or not
+pub same-or-not : {A : Type 0} (m n : ℕ) → (m ≡ n → A) → ((m ≡ n → ⊥) → A) → A
+same-or-not m n f g = by-test (eqb m n) (λ e. f (eqb-true m n e)) (λ e. g (eqb-false m n e))
+
 pub and-left : (a b : Bool) → a && b ≡ true → a ≡ true
 and-left true b e = refl
 and-left false b e = e
@@ -34,6 +40,11 @@ and-left false b e = e
 pub and-right : (a b : Bool) → a && b ≡ true → b ≡ true
 and-right true b e = e
 and-right false b e = clash e refl
+
+-- what is not not so is so
+pub no-not : (t : Bool) → not t ≡ false → t ≡ true
+no-not true e = refl
+no-not false e = clash {t = true} refl e
 
 pub or-cases : {A : Type 0} (a b : Bool) → a || b ≡ true → (a ≡ true → A) → (b ≡ true → A) → A
 or-cases true b e f g = f refl

@@ -2,36 +2,41 @@
 -- other ending zeros, and nothing else changes it.
 -- Assumes nothing.
 use Prim.Native.Nat.{ℕ, _+_, _-_, _*_, _≤_}
-use mathlib.Core.Path.{_≡_, refl, ap, _∙_}
+use mathlib.Core.Path.{_≡_, refl, sym, ap, _∙_}
 use mathlib.Core.List.{List, _++_}
 use mathlib.Core.Bool.{Bool, true, false}
 use native.Mathlib.Omega.{arith}
-use native.Mathlib.Nat.{sub-zero}
 use lib.ListN.{length, take}
-use Rattle.copies.specs.Parts.{zeros, length-zeros, put, put-fits, put-length, put-end, put-whole}
+use Rattle.choices.specs.Tests.{same-or-not, clash}
+use Rattle.copies.specs.Parts.{zeros, put, put-fits}
 use Rattle.answers.specs.Answers.{success}
 use Rattle.pages.specs.Pages.{block}
 use Rattle.words.specs.declared.Words.{Words}
-use Rattle.course.specs.declared.Phase.the-variants.{Chunk}
-use Rattle.course.specs.declared.Seen.{Seen}
-use Rattle.course.specs.declared.Move.{Move}
-use Rattle.course.specs.declared.Move.the-variants.{Fail, Open, More, Skip, Acknowledge, Done}
-use Rattle.course.specs.Course.{areaLast, areaBytes, chunkBlocks, judgeBy}
-use Rattle.course.specs.Laws.{chunk-inside, chunk-ends, fits-room}
+use Rattle.plans.specs.declared.Phase.the-variants.{Chunk}
+use Rattle.plans.specs.Plans.{areaLast, areaBytes, chunkBlocks}
+use Rattle.plans.specs.Limits.{chunk-inside, chunk-ends, fits-room}
+use Rattle.completions.specs.declared.Seen.{Seen}
+use Rattle.completions.specs.Completions.{touched}
+use Rattle.completions.specs.Touched.{touched-length, zeros-after, zeros-all}
+use Rattle.judgement.specs.declared.Ending.{Ending}
+use Rattle.judgement.specs.declared.Ending.the-variants.{Success, NoRoom}
+use Rattle.judgement.specs.declared.Move.{Move}
+use Rattle.judgement.specs.declared.Move.the-variants.{End, Open, More, Skip, Acknowledge}
+use Rattle.judgement.specs.Judgement.{newerThan, testsOf, judgeBy}
+use Rattle.turns.specs.Turns.{good}
 use Rattle.collection.specs.declared.Collection.{Collection}
-use Rattle.collection.specs.declared.Ending.{Ending}
-use Rattle.collection.specs.declared.Next.the-variants.{Send, Ended as Ends}
-use Rattle.collection.specs.declared.Touch.{Touch}
-use Rattle.collection.specs.declared.Touch.the-variants.{Nothing, Place, Tail, All}
-use Rattle.collection.specs.Collection.{expectedOf, lookOf, refusalOf, newerThan, moveOf, actOf, decideOf, zerosFrom, touched, stepOf, copyAfter, numberOf}
-use Rattle.collection.specs.Laws.{same-or-not, state-kept, not-refused, Moves, move-cases}
-use Rattle.collection.specs.Steps.{refused-step, refused-copy, taken-step, taken-copy}
+use Rattle.collection.specs.declared.Finish.{Finish}
+use Rattle.collection.specs.declared.Next.{Next}
+use Rattle.collection.specs.declared.Next.the-variants.{Send, End as Ends, Refuse}
+use Rattle.collection.specs.Collection.{expectedOf, lookOf, refusalOf, moveOf, decideOf, stepOf, copyAfter}
+use Rattle.collection.specs.Laws.{state-valid, not-refused, Moves, move-cases}
+use Rattle.collection.specs.Steps.{makes, touches, refused-step, refused-copy, taken-step, taken-copy}
 
 -- the area of a state whose completion is taken lies within the copy
-pub area-within : (s : Collection) (ok : Bool) (bytes copy : ℕ) → refusalOf s ok bytes copy ≡ success → areaBytes (s .plan) (s .last) ≤ copy
+pub area-within : (s : Collection) (ok : Bool) (bytes copy : ℕ) → refusalOf s ok bytes copy ≡ success → areaBytes (s .plan) (s .attempt .last) ≤ copy
 area-within s ok bytes copy r =
     let t = not-refused s ok bytes copy r in
-    let f = fits-room (s .plan) (s .last) (state-kept s (t .state) .room) in
+    let f = fits-room (s .plan) (s .attempt .last) (state-valid s (t .state) .room) in
     omega arith
 
 -- a good chunk has its length, and lies within the area
@@ -39,22 +44,14 @@ chunk-fits : (s : Collection) (at bytes copy : ℕ) → s .phase ≡ Chunk at �
 unfolding expectedOf
 chunk-fits s at bytes copy f r =
     let t = not-refused s true bytes copy r in
-    let k = state-kept s (t .state) in
-    let i = chunk-inside at (areaLast (s .plan) (s .last)) (rw f at (k .inside)) in
-    let e = chunk-ends (s .plan .chunk) at (areaLast (s .plan) (s .last)) (i .1) in
-    let l : bytes ≡ block * chunkBlocks (s .plan .chunk) at (areaLast (s .plan) (s .last)) = rw f at (t .bytes-fit) in
+    let k = state-valid s (t .state) in
+    let i = chunk-inside at (areaLast (s .plan) (s .attempt .last)) (rw f at (k .inside)) in
+    let e = chunk-ends (s .plan .chunk) at (areaLast (s .plan) (s .attempt .last)) (i .1) in
+    let l : bytes ≡ block * chunkBlocks (s .plan .chunk) at (areaLast (s .plan) (s .attempt .last)) = rw f at (t .bytes-fit) in
     let w = area-within s true bytes copy r in
     omega arith
 
--- ---- no step changes the copy's length
-
-touched-length : (t : Touch) (d copy : List ℕ) → length (touched t d copy) ≡ length copy
-unfolding touched
-touched-length Nothing d copy = refl
-touched-length (Place place) d copy = put-length copy place d
-touched-length (Tail place) d copy = put-length copy place (zeros (length copy - place))
-touched-length All d copy = put-length copy 0 (zeros (length copy - 0))
-
+-- no step changes the copy's length
 pub copy-length : (s : Collection) (ok : Bool) (d copy : List ℕ) → length (copyAfter s ok d copy) ≡ length copy
 unfolding copyAfter
 copy-length s ok d copy = touched-length (decideOf s ok (length d) (length copy) (lookOf s d) .touch) d copy
@@ -63,60 +60,69 @@ copy-length s ok d copy = touched-length (decideOf s ok (length d) (length copy)
 
 pub chunk-copy : (s : Collection) (at : ℕ) (d copy : List ℕ) → s .phase ≡ Chunk at → refusalOf s true (length d) (length copy) ≡ success
     → (block * (at - 1) + length d ≤ length copy) × (copyAfter s true d copy ≡ put copy (block * (at - 1)) d)
-unfolding moveOf judgeBy actOf touched
+unfolding moveOf judgeBy testsOf touches touched
 chunk-copy s at d copy f r =
     let l = chunk-fits s at (length d) (length copy) f r in
     (l, taken-copy s true d copy r ∙ rw f (put-fits copy (block * (at - 1)) d l))
 
 -- ---- endings
 
-zeros-after : (copy : List ℕ) (place : ℕ) → place ≤ length copy → zerosFrom copy place ≡ take place copy ++ zeros (length copy - place)
-zeros-after copy place h = put-end copy (zeros (length copy - place)) place (omega (arith, length-zeros (length copy - place)))
+-- what follows is an ending or it is not
+pub not-sent : {A : Type 0} {w : Words} {e : Finish} → Send w ≡ Ends e → A
+not-sent q = let z : _≡_ {A = ℕ} 0 1 = cc in absurd (omega arith)
 
-zeros-all : (copy : List ℕ) → zerosFrom copy 0 ≡ zeros (length copy)
-zeros-all copy = rw sub-zero (put-whole copy (zeros (length copy)) (omega (arith, length-zeros (length copy))))
+pub not-refusal : {A : Type 0} {n : ℕ} {e : Finish} → Refuse n ≡ Ends e → A
+not-refusal q = let z : _≡_ {A = ℕ} 0 1 = cc in absurd (omega arith)
+
+-- how an ending ended
+abbrev endingOr : Ending → Next → Ending
+endingOr x (Send w) = x
+endingOr x (Ends e) = e .ending
+endingOr x (Refuse n) = x
+
+pub ending-of : {x e : Finish} → Ends x ≡ Ends e → x .ending ≡ e .ending
+ending-of {x} q = ap (endingOr (x .ending)) q
 
 -- what is said of an ending: a success leaves the area's bytes and zeros after them, every other ending leaves zeros
-pub record Left (s : Collection) (copy after : List ℕ) (e : Ending) : Type 0 where
-  pub area : areaBytes (s .plan) (s .last) ≤ length copy
-  pub stood : e .answer ≡ success → after ≡ take (areaBytes (s .plan) (s .last)) copy ++ zeros (length copy - areaBytes (s .plan) (s .last))
-  pub cleared : 1 ≤ e .answer → after ≡ zeros (length copy)
+pub record Left (s : Collection) (copy after : List ℕ) (e : Finish) : Type 0 where
+  pub area : areaBytes (s .plan) (s .attempt .last) ≤ length copy
+  pub stood : good (e .ending) ≡ true
+      → after ≡ take (areaBytes (s .plan) (s .attempt .last)) copy ++ zeros (length copy - areaBytes (s .plan) (s .attempt .last))
+  pub cleared : good (e .ending) ≡ false → after ≡ zeros (length copy)
 
 -- a move that ends the collection leaves that
-abbrev Leaves : Collection → List ℕ → List ℕ → Ending → Seen → Move → Type 0
-Leaves s d copy e h m = actOf s h m .stepped .next ≡ Ends e → Left s copy (touched (actOf s h m .touch) d copy) e
+abbrev Leaves : Collection → List ℕ → List ℕ → Finish → Seen → Move → Type 0
+Leaves s d copy e h m = makes s h m .next ≡ Ends e → Left s copy (touched (touches s m) d copy) e
 
-module _ (s : Collection) (d copy : List ℕ) (e : Ending) (w : areaBytes (s .plan) (s .last) ≤ length copy) where
-  failed : (h : Seen) (answer : ℕ) (next : Bool) → 1 ≤ answer → Leaves s d copy e h (Fail answer next)
-  unfolding actOf touched
-  failed h answer next l q =
-      let a : answer ≡ e .answer = ap numberOf q in
-      record { area = w; stood = λ z. absurd (omega arith); cleared = λ z. zeros-all copy }
+module _ (s : Collection) (d copy : List ℕ) (e : Finish) (w : areaBytes (s .plan) (s .attempt .last) ≤ length copy) where
+  goes-on : (h : Seen) (m : Move) (x : Words) → makes s h m .next ≡ Send x → Leaves s d copy e h m
+  goes-on h m x p q = not-sent (sym p ∙ q)
 
-  goes-on : (h : Seen) (m : Move) (x : Words) → actOf s h m .stepped .next ≡ Send x → Leaves s d copy e h m
-  goes-on h m x p q = let z : _≡_ {A = ℕ} 0 1 = cc in absurd (omega arith)
-
-  done : (h : Seen) (newer : Bool) → Leaves s d copy e h (Done newer)
-  unfolding actOf touched
-  done h newer q =
-      let a : 0 ≡ e .answer = ap numberOf q in
-      record { area = w; stood = λ z. zeros-after copy (areaBytes (s .plan) (s .last)) w; cleared = λ z. absurd (omega arith) }
+  ended : (h : Seen) (x : Ending) (next : Bool) → Leaves s d copy e h (End x next)
+  unfolding makes touches touched
+  ended h x next q =
+      let a : x ≡ e .ending = ending-of q in
+      record {
+        area = w;
+        stood = λ z. let y : good x ≡ true = rw a z in rw y (zeros-after copy (areaBytes (s .plan) (s .attempt .last)) w);
+        cleared = λ z. let y : good x ≡ false = rw a z in rw y (zeros-all copy);
+      }
 
   moves : (ok : Bool) (h : Seen) → Moves (Leaves s d copy e h) s ok h
-  unfolding actOf
+  unfolding makes
   moves ok h = record {
-    fail = λ n l. failed h n false l;
-    large = λ f l. failed h 8 true (omega arith);
+    fail = λ x l. ended h x false;
+    large = λ f l. ended h NoRoom true;
     first = λ f r. goes-on h (Open false) _ refl;
     again = λ f l r. goes-on h (Open true) _ refl;
     more = λ at f y. goes-on h (More at) _ refl;
     skip = λ at f. goes-on h Skip _ refl;
     acknowledge = λ f p. goes-on h Acknowledge _ refl;
-    stand = λ f. done h false;
-    done = λ f. done h (newerThan s h);
+    stand = λ f. ended h (Success false) false;
+    done = λ f. ended h (Success (newerThan (s .attempt) h)) false;
   }
 
-pub ending-copy : (s : Collection) (ok : Bool) (d copy : List ℕ) (e : Ending) → stepOf s ok d (length copy) .next ≡ Ends e
+pub ending-copy : (s : Collection) (ok : Bool) (d copy : List ℕ) (e : Finish) → stepOf s ok d (length copy) .next ≡ Ends e
     → Left s copy (copyAfter s ok d copy) e
 ending-copy s ok d copy e q =
     same-or-not (refusalOf s ok (length d) (length copy)) success
@@ -124,33 +130,30 @@ ending-copy s ok d copy e q =
     let w = area-within s ok (length d) (length copy) r in
     rw (taken-copy s ok d copy r)
     (move-cases (Leaves s d copy e (lookOf s d)) s ok (lookOf s d) (moves s d copy e w ok (lookOf s d)) (rw (taken-step s ok d (length copy) r) at q)))
-    (λ r.
-    let p = rw (refused-step s ok d (length copy) r) at q in
-    let z : _≡_ {A = ℕ} 0 1 = cc in
-    absurd (omega arith))
+    (λ r. not-refusal (rw (refused-step s ok d (length copy) r) at q))
 
 -- ---- nothing else changes the copy
 
 -- a move after which a command is sent leaves the copy, but for a good chunk's
 abbrev Keeps : Collection → List ℕ → List ℕ → Words → Seen → Move → Type 0
-Keeps s d copy x h m = actOf s h m .stepped .next ≡ Send x → touched (actOf s h m .touch) d copy ≡ copy
+Keeps s d copy x h m = makes s h m .next ≡ Send x → touched (touches s m) d copy ≡ copy
 
 pub sending-copy : (s : Collection) (ok : Bool) (d copy : List ℕ) (x : Words) → stepOf s ok d (length copy) .next ≡ Send x
     → ((at : ℕ) → s .phase ≡ Chunk at → ok ≡ true → ⊥) → copyAfter s ok d copy ≡ copy
-unfolding actOf touched
+unfolding makes touches touched
 sending-copy s ok d copy x q other =
     same-or-not (refusalOf s ok (length d) (length copy)) success
     (λ r.
     taken-copy s ok d copy r
     ∙ move-cases (Keeps s d copy x (lookOf s d)) s ok (lookOf s d) (record {
-      fail = λ n l p. let z : _≡_ {A = ℕ} 0 1 = cc in absurd (omega arith);
-      large = λ f l p. let z : _≡_ {A = ℕ} 0 1 = cc in absurd (omega arith);
+      fail = λ n l p. not-sent (sym p);
+      large = λ f l p. not-sent (sym p);
       first = λ f l p. refl;
       again = λ f l a p. refl;
       more = λ at f y. absurd (other at f y);
       skip = λ at f p. refl;
       acknowledge = λ f w p. refl;
-      stand = λ f p. let z : _≡_ {A = ℕ} 0 1 = cc in absurd (omega arith);
-      done = λ f p. let z : _≡_ {A = ℕ} 0 1 = cc in absurd (omega arith);
+      stand = λ f p. not-sent (sym p);
+      done = λ f p. not-sent (sym p);
     }) (rw (taken-step s ok d (length copy) r) at q))
     (λ r. refused-copy s ok d copy r)

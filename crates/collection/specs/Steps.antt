@@ -1,7 +1,7 @@
--- What a step does, by what was awaited and what came, and what it leaves of the copy: laws that callers cite, so that they never look into
--- the step's definition. h is what is seen of the data.
+-- What a step does, by what was awaited and what came: laws that callers cite, so that they never look into the step's definition. h is what is
+-- seen of the data.
 -- Assumes nothing.
-use Prim.Native.Nat.{ℕ, _+_, _≤_, _<_}
+use Prim.Native.Nat.{ℕ, _+_, _-_, _*_, _≤_, _<_}
 use mathlib.Core.Path.{_≡_, refl, sym, ap, _∙_}
 use mathlib.Core.List.{List}
 use mathlib.Core.Bool.{Bool, true, false}
@@ -9,38 +9,91 @@ use lib.ListN.{length}
 use lib.Dec.{eqb}
 use borrow.Author.Tests.{eq-eqb, ne-eqb, le-leb, lt-leb}
 use Rattle.choices.specs.Choice.{pick}
-use Rattle.choices.specs.Tests.{each, clash}
-use Rattle.answers.specs.Answers.{success, badHeader, noRoom, attemptsUsedUp, withdrawn, nothing, brokeItsWord}
-use Rattle.pages.specs.Pages.{controllerPage}
-use Rattle.course.specs.declared.Plan.{Plan}
-use Rattle.course.specs.declared.Phase.{Phase}
-use Rattle.course.specs.declared.Phase.the-variants.{First, Chunk, Close, CloseRefused, Ack, Ended}
-use Rattle.course.specs.declared.Seen.{Seen}
-use Rattle.course.specs.declared.Move.{Move}
-use Rattle.course.specs.declared.Move.the-variants.{Fail, Open, More, Skip, Acknowledge, Done}
-use Rattle.course.specs.Course.{setupAnswer, fitsRoom, endedBy, followingOf, showsNone, firstJudge, mismatchJudge, laterJudge, judgeBy}
-use Rattle.course.specs.Awaited.{Awaits, awaited-built}
+use Rattle.choices.specs.Tests.{each}
+use Rattle.answers.specs.Answers.{success}
+use Rattle.pages.specs.Pages.{controllerPage, block}
+use Rattle.header.specs.Header.{faultless}
+use Rattle.plans.specs.declared.Plan.{Plan}
+use Rattle.plans.specs.declared.Phase.{Phase}
+use Rattle.plans.specs.declared.Phase.the-variants.{First, Chunk, Close, Ack, Ended}
+use Rattle.plans.specs.Phases.{closingBy, refusedBy, endedBy, closing-is}
+use Rattle.plans.specs.Plans.{setupAnswer, areaBytes, fitsRoom}
+use Rattle.plans.specs.Awaited.{Awaits, awaited-built}
+use Rattle.completions.specs.declared.Seen.{Seen}
+use Rattle.completions.specs.declared.Touch.{Touch}
+use Rattle.completions.specs.declared.Touch.the-variants.{Keep, Place}
+use Rattle.completions.specs.Completions.{showsNone, touched}
+use Rattle.judgement.specs.declared.Ending.the-variants.{Success, BadHeader, NoRoom, UsedUp, Withdrawn, Nothing, BrokeItsWord}
+use Rattle.judgement.specs.declared.Move.{Move}
+use Rattle.judgement.specs.declared.Move.the-variants.{End, Open, More, Skip, Acknowledge}
+use Rattle.judgement.specs.Judgement.{matches, newerThan, testsOf, firstOrder, matchOrder, laterOrder, judgeBy}
+use Rattle.turns.specs.Turns.{openingOf, followingOf, leftBy, turnOf}
 use Rattle.collection.specs.declared.Collection.{Collection}
-use Rattle.collection.specs.declared.Next.the-variants.{Send, Refused}
+use Rattle.collection.specs.declared.Next.the-variants.{Send, Refuse}
 use Rattle.collection.specs.declared.Stepped.{Stepped}
 use Rattle.collection.specs.declared.Decided.{Decided}
-use Rattle.collection.specs.declared.Touch.the-variants.{Nothing, All}
-use Rattle.collection.specs.Collection.{stateOk, lookOf, refusalOf, matches, newerThan, moveOf, inPhase, openedOf, sentOf, overOf, actOf, touched, stepOf, copyAfter, awaitedOf, beginning, setupOf}
-use Rattle.collection.specs.Laws.{state-kept, decide-yes, decide-no, closingBy}
+use Rattle.collection.specs.Collection.{validState, lookOf, refusalOf, moveOf, turnBy, numberIn, sends, ends, actOf, madeOf, stepOf, copyAfter, awaitedOf, beginning, setupOf}
+use Rattle.collection.specs.Laws.{state-valid, decide-yes, decide-no}
 
--- the state goes over into this one, whose awaited command is sent and counted
-abbrev pub sends : Collection → Stepped
-sends s = sentOf s (s .count + 1) Nothing .stepped
+-- the state with another command sent in its attempt
+abbrev pub inPhase : Collection → Phase → Collection
+inPhase s f = record { plan = s .plan; phase = f; attempt = s .attempt; count = s .count + 1 }
 
--- the collection ends, in this attempt or in the next one
-abbrev pub ends : Collection → Bool → ℕ → Bool → Stepped
-ends s next answer newer = overOf s next answer newer All .stepped
+-- the state whose attempt, this one or the next, the header opens
+abbrev pub openedBy : Collection → Bool → Seen → Collection
+openedBy s next h = record {
+  plan = s .plan;
+  phase = openingOf (s .plan) (h .last);
+  attempt = record { number = numberIn s next; generation = h .generation; last = h .last };
+  count = s .count + 1;
+}
 
--- ---- the awaited command of a state that does not get 13, forged or not, is never a builder's refusal
+-- the state that has ended, in this attempt or the next
+abbrev pub endedIn : Collection → Bool → Collection
+endedIn s next = record {
+  plan = s .plan;
+  phase = Ended;
+  attempt = record { number = numberIn s next; generation = s .attempt .generation; last = s .attempt .last };
+  count = s .count;
+}
 
-pub awaited-taken : (s : Collection) → stateOk s ≡ true → endedBy (s .phase) ≡ false → Awaits (s .phase) (s .plan) (s .last)
-unfolding stateOk
-awaited-taken s e g = awaited-built (s .phase) (s .plan) (s .last) (state-kept s e .plan) (each _ e 3) g
+-- what a move makes of the state
+unfoldable pub makes : Collection → Seen → Move → Stepped
+makes s h (End e next) = ends (endedIn s next) e
+makes s h (Open next) = sends (openedBy s next h)
+makes s h (More at) = sends (inPhase s (followingOf (s .plan) (s .attempt .last) at))
+makes s h Skip = sends (inPhase s (Close true))
+makes s h Acknowledge = sends (inPhase s Ack)
+
+pub made-is : (s : Collection) (h : Seen) (m : Move) → madeOf s h m .stepped ≡ makes s h m
+unfolding makes actOf turnBy turnOf
+made-is s h (End e next) = refl
+made-is s h (Open next) = refl
+made-is s h (More at) = refl
+made-is s h Skip = refl
+made-is s h Acknowledge = refl
+
+-- and of the copy
+unfoldable pub touches : Collection → Move → Touch
+touches s (End e next) = leftBy e (areaBytes (s .plan) (s .attempt .last))
+touches s (Open next) = Keep
+touches s (More at) = Place (block * (at - 1))
+touches s Skip = Keep
+touches s Acknowledge = Keep
+
+pub made-touches : (s : Collection) (h : Seen) (m : Move) → madeOf s h m .touch ≡ touches s m
+unfolding touches turnBy turnOf
+made-touches s h (End e next) = refl
+made-touches s h (Open next) = refl
+made-touches s h (More at) = refl
+made-touches s h Skip = refl
+made-touches s h Acknowledge = refl
+
+-- ---- the awaited command of a valid state, made by hand or not, is never a builder's refusal
+
+pub awaited-taken : (s : Collection) → validState s ≡ true → endedBy (s .phase) ≡ false → Awaits (s .phase) (s .plan) (s .attempt .last)
+unfolding validState
+awaited-taken s e g = awaited-built (s .phase) (s .plan) (s .attempt .last) (state-valid s e .plan) (each _ e 3) g
 
 -- ---- setup
 
@@ -49,7 +102,7 @@ setupBy : Bool → Plan → Stepped
 setupBy t p =
     pick t
     (record { state = beginning p First 1; next = Send (awaitedOf (beginning p First 1)) })
-    (record { state = beginning p Ended 0; next = Refused (setupAnswer p) })
+    (record { state = beginning p Ended 0; next = Refuse (setupAnswer p) })
 
 pub setup-taken : (p : Plan) → setupAnswer p ≡ success
     → setupOf p ≡ record { state = beginning p First 1; next = Send (awaitedOf (beginning p First 1)) }
@@ -57,14 +110,14 @@ unfolding setupOf setupBy
 setup-taken p e = ap (λ (t : Bool). setupBy t p) (eq-eqb (setupAnswer p) success e)
 
 pub setup-refused : (p : Plan) → (setupAnswer p ≡ success → ⊥)
-    → setupOf p ≡ record { state = beginning p Ended 0; next = Refused (setupAnswer p) }
+    → setupOf p ≡ record { state = beginning p Ended 0; next = Refuse (setupAnswer p) }
 unfolding setupOf setupBy
 setup-refused p e = ap (λ (t : Bool). setupBy t p) (ne-eqb (setupAnswer p) success e)
 
 -- ---- a refusal changes nothing
 
 pub refused-step : (s : Collection) (ok : Bool) (d : List ℕ) (n : ℕ) → (refusalOf s ok (length d) n ≡ success → ⊥)
-    → stepOf s ok d n ≡ record { state = s; next = Refused (refusalOf s ok (length d) n) }
+    → stepOf s ok d n ≡ record { state = s; next = Refuse (refusalOf s ok (length d) n) }
 unfolding stepOf
 refused-step s ok d n r = ap (λ (x : Decided). x .stepped) (sym (decide-no s ok (length d) n (lookOf s d) _ _ refl r refl))
 
@@ -77,149 +130,130 @@ refused-copy s ok d copy r =
 -- ---- a completion that is taken does what its move says
 
 pub taken-step : (s : Collection) (ok : Bool) (d : List ℕ) (n : ℕ) → refusalOf s ok (length d) n ≡ success
-    → stepOf s ok d n ≡ actOf s (lookOf s d) (moveOf s ok (lookOf s d)) .stepped
+    → stepOf s ok d n ≡ makes s (lookOf s d) (moveOf s ok (lookOf s d))
 unfolding stepOf
-taken-step s ok d n r = ap (λ (x : Decided). x .stepped) (sym (decide-yes s ok (length d) n (lookOf s d) _ _ _ refl r refl refl))
+taken-step s ok d n r =
+    ap (λ (x : Decided). x .stepped) (sym (decide-yes s ok (length d) n (lookOf s d) _ _ _ refl r refl refl))
+    ∙ made-is s (lookOf s d) (moveOf s ok (lookOf s d))
 
 pub taken-copy : (s : Collection) (ok : Bool) (d copy : List ℕ) → refusalOf s ok (length d) (length copy) ≡ success
-    → copyAfter s ok d copy ≡ touched (actOf s (lookOf s d) (moveOf s ok (lookOf s d)) .touch) d copy
+    → copyAfter s ok d copy ≡ touched (touches s (moveOf s ok (lookOf s d))) d copy
 unfolding copyAfter
 taken-copy s ok d copy r =
     ap (λ (x : Decided). touched (x .touch) d copy) (sym (decide-yes s ok (length d) (length copy) (lookOf s d) _ _ _ refl r refl refl))
+    ∙ ap (λ (x : Touch). touched x d copy) (made-touches s (lookOf s d) (moveOf s ok (lookOf s d)))
 
--- the move of a step put in
-moved : (s : Collection) (ok : Bool) (d : List ℕ) (n : ℕ) (m : Move) → refusalOf s ok (length d) n ≡ success → moveOf s ok (lookOf s d) ≡ m
-    → stepOf s ok d n ≡ actOf s (lookOf s d) m .stepped
-moved s ok d n m r e = taken-step s ok d n r ∙ ap (λ (x : Move). actOf s (lookOf s d) x .stepped) e
-
--- the phase put in
-phased : (f : Phase) (s : Collection) (ok : Bool) (h : Seen) → s .phase ≡ f
-    → moveOf s ok h ≡ judgeBy f (s .plan) (s .attempt) (matches s h) (newerThan s h) ok h
-unfolding moveOf
-phased f s ok h e = rw e
-
--- after a refused chunk
-abbrev pub refusedBy : Phase → Bool
-refusedBy First = false
-refusedBy (Chunk at) = false
-refusedBy Close = false
-refusedBy CloseRefused = true
-refusedBy Ack = false
-refusedBy Ended = false
-
-closing : (f : Phase) (p : Plan) (attempt : ℕ) (same newer ok : Bool) (h : Seen) → closingBy f ≡ true
-    → judgeBy f p attempt same newer ok h ≡ laterJudge p attempt same (refusedBy f) ok h
-unfolding judgeBy
-closing First p attempt same newer ok h c = clash {t = true} refl (sym c)
-closing (Chunk at) p attempt same newer ok h c = clash {t = true} refl (sym c)
-closing Close p attempt same newer ok h c = refl
-closing CloseRefused p attempt same newer ok h c = refl
-closing Ack p attempt same newer ok h c = clash {t = true} refl (sym c)
-closing Ended p attempt same newer ok h c = clash {t = true} refl (sym c)
+-- the move of a step put in, by its phase
+module _ (s : Collection) (ok : Bool) (d : List ℕ) (n : ℕ) (r : refusalOf s ok (length d) n ≡ success) where
+  moved : (f : Phase) (m : Move) → s .phase ≡ f → judgeBy f (testsOf (s .plan) (s .attempt) ok (lookOf s d)) ≡ m
+      → stepOf s ok d n ≡ makes s (lookOf s d) m
+  unfolding moveOf
+  moved f m p e =
+      taken-step s ok d n r
+      ∙ ap (λ (x : Move). makes s (lookOf s d) x)
+      (ap (λ (g : Phase). judgeBy g (testsOf (s .plan) (s .attempt) ok (lookOf s d))) p ∙ e)
 
 -- ---- the first header: 12, 7, 11, 8, or it opens the attempt
 
 module _ (s : Collection) (ok : Bool) (d : List ℕ) (n : ℕ) (r : refusalOf s ok (length d) n ≡ success) (f : s .phase ≡ First) where
-  first : (m : Move) → firstJudge (s .plan) ok (lookOf s d) ≡ m → stepOf s ok d n ≡ actOf s (lookOf s d) m .stepped
+  first : (m : Move) → firstOrder (testsOf (s .plan) (s .attempt) ok (lookOf s d)) ≡ m → stepOf s ok d n ≡ makes s (lookOf s d) m
   unfolding judgeBy
-  first m e = moved s ok d n m r (phased First s ok (lookOf s d) f ∙ e)
+  first m e = moved s ok d n r First m f e
 
-  pub first-refused : ok ≡ false → stepOf s ok d n ≡ ends s false brokeItsWord false
-  unfolding actOf firstJudge
-  first-refused k = first (Fail brokeItsWord false) (rw k)
+  pub first-refused : ok ≡ false → stepOf s ok d n ≡ ends (endedIn s false) BrokeItsWord
+  unfolding makes firstOrder testsOf
+  first-refused k = first (End BrokeItsWord false) (rw k)
 
   module _ (k : ok ≡ true) where
-    pub first-bad : lookOf s d .good ≡ false → stepOf s ok d n ≡ ends s false badHeader false
-    unfolding actOf firstJudge
-    first-bad g = first (Fail badHeader false) (rw (k, g))
+    pub first-bad : faultless (lookOf s d .fault) ≡ false → stepOf s ok d n ≡ ends (endedIn s false) (BadHeader (lookOf s d .fault))
+    unfolding makes firstOrder testsOf
+    first-bad g = first (End (BadHeader (lookOf s d .fault)) false) (rw (k, g))
 
-    module _ (g : lookOf s d .good ≡ true) where
-      pub first-none : showsNone (s .plan) (lookOf s d) ≡ true → stepOf s ok d n ≡ ends s false nothing false
-      unfolding actOf firstJudge
-      first-none w = first (Fail nothing false) (rw (k, g, w))
+    module _ (g : faultless (lookOf s d .fault) ≡ true) where
+      pub first-none : showsNone (s .plan) (lookOf s d) ≡ true → stepOf s ok d n ≡ ends (endedIn s false) Nothing
+      unfolding makes firstOrder testsOf
+      first-none w = first (End Nothing false) (rw (k, g, w))
 
       pub first-large : showsNone (s .plan) (lookOf s d) ≡ false → fitsRoom (s .plan) (lookOf s d .last) ≡ false
-          → stepOf s ok d n ≡ ends s false noRoom false
-      unfolding actOf firstJudge
-      first-large w l = first (Fail noRoom false) (rw (k, g, w, l))
+          → stepOf s ok d n ≡ ends (endedIn s false) NoRoom
+      unfolding makes firstOrder testsOf
+      first-large w l = first (End NoRoom false) (rw (k, g, w, l))
 
       pub first-opens : showsNone (s .plan) (lookOf s d) ≡ false → fitsRoom (s .plan) (lookOf s d .last) ≡ true
-          → stepOf s ok d n ≡ sends (openedOf s false (lookOf s d))
-      unfolding actOf firstJudge
+          → stepOf s ok d n ≡ sends (openedBy s false (lookOf s d))
+      unfolding makes firstOrder testsOf
       first-opens w l = first (Open false) (rw (k, g, w, l))
 
 -- ---- a chunk: a good one is followed by the next or by the closing header, a refused one by the header
 
 module _ (s : Collection) (at : ℕ) (d : List ℕ) (n : ℕ) (f : s .phase ≡ Chunk at) where
-  pub chunk-good : refusalOf s true (length d) n ≡ success → stepOf s true d n ≡ sends (inPhase s (followingOf (s .plan) (s .last) at))
-  unfolding actOf judgeBy
-  chunk-good r = moved s true d n (More at) r (phased (Chunk at) s true (lookOf s d) f)
+  pub chunk-good : refusalOf s true (length d) n ≡ success → stepOf s true d n ≡ sends (inPhase s (followingOf (s .plan) (s .attempt .last) at))
+  unfolding makes judgeBy testsOf
+  chunk-good r = moved s true d n r (Chunk at) (More at) f refl
 
-  pub chunk-refused : refusalOf s false (length d) n ≡ success → stepOf s false d n ≡ sends (inPhase s CloseRefused)
-  unfolding actOf judgeBy
-  chunk-refused r = moved s false d n Skip r (phased (Chunk at) s false (lookOf s d) f)
+  pub chunk-refused : refusalOf s false (length d) n ≡ success → stepOf s false d n ≡ sends (inPhase s (Close true))
+  unfolding makes judgeBy testsOf
+  chunk-refused r = moved s false d n r (Chunk at) Skip f refl
 
 -- ---- a later header: 12, 7, 10; on a match 12 after a refused chunk, success on 07h, the acknowledgement on 08h; on a mismatch 9, 8, or it
 -- opens the next attempt
 
 module _ (s : Collection) (ok : Bool) (d : List ℕ) (n : ℕ) (r : refusalOf s ok (length d) n ≡ success) (f : closingBy (s .phase) ≡ true) where
-  later : (m : Move) → laterJudge (s .plan) (s .attempt) (matches s (lookOf s d)) (refusedBy (s .phase)) ok (lookOf s d) ≡ m
-      → stepOf s ok d n ≡ actOf s (lookOf s d) m .stepped
-  unfolding moveOf
-  later m e =
-      moved s ok d n m r
-      (closing (s .phase) (s .plan) (s .attempt) (matches s (lookOf s d)) (newerThan s (lookOf s d)) ok (lookOf s d) f ∙ e)
+  later : (m : Move) → laterOrder (testsOf (s .plan) (s .attempt) ok (lookOf s d)) (refusedBy (s .phase)) ≡ m
+      → stepOf s ok d n ≡ makes s (lookOf s d) m
+  unfolding judgeBy
+  later m e = moved s ok d n r (Close (refusedBy (s .phase))) m (closing-is (s .phase) f .is) e
 
-  pub later-refused : ok ≡ false → stepOf s ok d n ≡ ends s false brokeItsWord false
-  unfolding actOf laterJudge
-  later-refused k = later (Fail brokeItsWord false) (rw k)
+  pub later-refused : ok ≡ false → stepOf s ok d n ≡ ends (endedIn s false) BrokeItsWord
+  unfolding makes laterOrder testsOf
+  later-refused k = later (End BrokeItsWord false) (rw k)
 
   module _ (k : ok ≡ true) where
-    pub later-bad : lookOf s d .good ≡ false → stepOf s ok d n ≡ ends s false badHeader false
-    unfolding actOf laterJudge
-    later-bad g = later (Fail badHeader false) (rw (k, g))
+    pub later-bad : faultless (lookOf s d .fault) ≡ false → stepOf s ok d n ≡ ends (endedIn s false) (BadHeader (lookOf s d .fault))
+    unfolding makes laterOrder testsOf
+    later-bad g = later (End (BadHeader (lookOf s d .fault)) false) (rw (k, g))
 
-    module _ (g : lookOf s d .good ≡ true) where
-      pub later-none : showsNone (s .plan) (lookOf s d) ≡ true → stepOf s ok d n ≡ ends s false withdrawn false
-      unfolding actOf laterJudge
-      later-none w = later (Fail withdrawn false) (rw (k, g, w))
+    module _ (g : faultless (lookOf s d .fault) ≡ true) where
+      pub later-none : showsNone (s .plan) (lookOf s d) ≡ true → stepOf s ok d n ≡ ends (endedIn s false) Withdrawn
+      unfolding makes laterOrder testsOf
+      later-none w = later (End Withdrawn false) (rw (k, g, w))
 
       module _ (w : showsNone (s .plan) (lookOf s d) ≡ false) where
-        pub later-broke : matches s (lookOf s d) ≡ true → refusedBy (s .phase) ≡ true → stepOf s ok d n ≡ ends s false brokeItsWord false
-        unfolding actOf laterJudge
-        later-broke q z = later (Fail brokeItsWord false) (rw (q, k, g, w, z))
+        pub later-broke : matches (s .attempt) (lookOf s d) ≡ true → refusedBy (s .phase) ≡ true → stepOf s ok d n ≡ ends (endedIn s false) BrokeItsWord
+        unfolding makes laterOrder matchOrder testsOf
+        later-broke q z = later (End BrokeItsWord false) (rw (q, k, g, w, z))
 
-        pub later-done : matches s (lookOf s d) ≡ true → refusedBy (s .phase) ≡ false → eqb (s .plan .page) controllerPage ≡ false
-            → stepOf s ok d n ≡ ends s false success false
-        unfolding actOf laterJudge
-        later-done q z p = later (Done false) (rw (q, k, g, w, z, p))
+        pub later-done : matches (s .attempt) (lookOf s d) ≡ true → refusedBy (s .phase) ≡ false → eqb (s .plan .page) controllerPage ≡ false
+            → stepOf s ok d n ≡ ends (endedIn s false) (Success false)
+        unfolding makes laterOrder matchOrder testsOf
+        later-done q z p = later (End (Success false) false) (rw (q, k, g, w, z, p))
 
-        pub later-acknowledges : matches s (lookOf s d) ≡ true → refusedBy (s .phase) ≡ false → eqb (s .plan .page) controllerPage ≡ true
+        pub later-acknowledges : matches (s .attempt) (lookOf s d) ≡ true → refusedBy (s .phase) ≡ false → eqb (s .plan .page) controllerPage ≡ true
             → stepOf s ok d n ≡ sends (inPhase s Ack)
-        unfolding actOf laterJudge
+        unfolding makes laterOrder matchOrder testsOf
         later-acknowledges q z p = later Acknowledge (rw (q, k, g, w, z, p))
 
-        pub later-used-up : matches s (lookOf s d) ≡ false → s .plan .attempts ≤ s .attempt → stepOf s ok d n ≡ ends s false attemptsUsedUp false
-        unfolding actOf laterJudge mismatchJudge
-        later-used-up q u = later (Fail attemptsUsedUp false) (rw (q, k, g, w, le-leb (s .plan .attempts) (s .attempt) u))
+        pub later-used-up : matches (s .attempt) (lookOf s d) ≡ false → s .plan .attempts ≤ s .attempt .number → stepOf s ok d n ≡ ends (endedIn s false) UsedUp
+        unfolding makes laterOrder matchOrder testsOf
+        later-used-up q u = later (End UsedUp false) (rw (q, k, g, w, le-leb (s .plan .attempts) (s .attempt .number) u))
 
-        pub later-large : matches s (lookOf s d) ≡ false → s .attempt < s .plan .attempts → fitsRoom (s .plan) (lookOf s d .last) ≡ false
-            → stepOf s ok d n ≡ ends s true noRoom false
-        unfolding actOf laterJudge mismatchJudge
-        later-large q u l = later (Fail noRoom true) (rw (q, k, g, w, lt-leb (s .plan .attempts) (s .attempt) u, l))
+        pub later-large : matches (s .attempt) (lookOf s d) ≡ false → s .attempt .number < s .plan .attempts → fitsRoom (s .plan) (lookOf s d .last) ≡ false
+            → stepOf s ok d n ≡ ends (endedIn s true) NoRoom
+        unfolding makes laterOrder matchOrder testsOf
+        later-large q u l = later (End NoRoom true) (rw (q, k, g, w, lt-leb (s .plan .attempts) (s .attempt .number) u, l))
 
-        pub later-opens : matches s (lookOf s d) ≡ false → s .attempt < s .plan .attempts → fitsRoom (s .plan) (lookOf s d .last) ≡ true
-            → stepOf s ok d n ≡ sends (openedOf s true (lookOf s d))
-        unfolding actOf laterJudge mismatchJudge
-        later-opens q u l = later (Open true) (rw (q, k, g, w, lt-leb (s .plan .attempts) (s .attempt) u, l))
+        pub later-opens : matches (s .attempt) (lookOf s d) ≡ false → s .attempt .number < s .plan .attempts → fitsRoom (s .plan) (lookOf s d .last) ≡ true
+            → stepOf s ok d n ≡ sends (openedBy s true (lookOf s d))
+        unfolding makes laterOrder matchOrder testsOf
+        later-opens q u l = later (Open true) (rw (q, k, g, w, lt-leb (s .plan .attempts) (s .attempt .number) u, l))
 
 -- ---- the acknowledgement: 12, or success, with the newer generation said
 
 module _ (s : Collection) (d : List ℕ) (n : ℕ) (f : s .phase ≡ Ack) where
-  pub ack-refused : refusalOf s false (length d) n ≡ success → stepOf s false d n ≡ ends s false brokeItsWord false
-  unfolding actOf judgeBy
-  ack-refused r = moved s false d n (Fail brokeItsWord false) r (phased Ack s false (lookOf s d) f)
+  pub ack-refused : refusalOf s false (length d) n ≡ success → stepOf s false d n ≡ ends (endedIn s false) BrokeItsWord
+  unfolding makes judgeBy testsOf
+  ack-refused r = moved s false d n r Ack (End BrokeItsWord false) f refl
 
-  pub ack-done : refusalOf s true (length d) n ≡ success → stepOf s true d n ≡ ends s false success (newerThan s (lookOf s d))
-  unfolding actOf judgeBy
-  ack-done r = moved s true d n (Done (newerThan s (lookOf s d))) r (phased Ack s true (lookOf s d) f)
+  pub ack-done : refusalOf s true (length d) n ≡ success → stepOf s true d n ≡ ends (endedIn s false) (Success (newerThan (s .attempt) (lookOf s d)))
+  unfolding makes judgeBy testsOf
+  ack-done r = moved s true d n r Ack (End (Success (newerThan (s .attempt) (lookOf s d))) false) f refl

@@ -1,46 +1,45 @@
 // A collection of a telemetry page: a state by value, and a step that takes a completion and gives the next state, with the next
 // command or the ending.
 //
-// It rests on choices, copies, answers, pages, words and course, and knows no controller. It promises, for any state, any completion and any
-// copy, the answer and every byte of the copy afterwards (specs/Collection.antt). What decides (`decide`) never looks at a chunk's bytes
+// It rests on choices, answers, words, plans, completions, judgement and turns, and knows no controller. It promises, for any state, any completion and
+// any copy, the answer and every byte of the copy afterwards (specs/Collection.antt). What decides (`decide`) never looks at a chunk's bytes
 // nor at the copy; `step` looks at the data, lets it decide, and moves the bytes.
-use course::Move;
-use course::Phase;
-use course::Plan;
-use course::Seen;
+use completions::Seen;
+use completions::Touch;
+use judgement::Attempt;
+use judgement::Ending;
+use judgement::Move;
+use plans::Due;
+use plans::Phase;
+use plans::Plan;
+use turns::Turn;
 use words::Words;
 ghost use mathlib.Core.Path.{_≡_};
-ghost use Prim.Native.Nat.{_-_, _*_, _≤_};
 ghost use lib.ListN.{length};
-ghost use Rattle.pages.specs.Pages.{block};
-ghost use Rattle.course.specs.Course.{mostAttempts, endedBy};
-ghost use Rattle.collection.specs.Collection.{awaitedOf, mostCount, stateOk, completionFits, refusalOf, matches, newerThan, moveOf, inPhase, attemptOf, openedOf, sentOf, overOf, actOf, refusedOf, decideOf, zerosFrom, touched, beginning, setupOf, stepOf, copyAfter, Sane, MoveOk};
+ghost use Rattle.collection.specs.Collection.{dueOf, awaitedOf, mostCount, validState, completionFits, refusalOf, turnedTo, sends, ends, refusedOf, actOf, decideOf, beginning, setupOf, stepOf, copyAfter, Bounded};
 
 // The most commands of one attempt: the chunks of the largest area, a block each, and the closing header.
 const MOST_OF_ATTEMPT: u64 = 1048577;
 
-// A state: `count` is the number of commands sent, `generation` and `last` are those of the attempt's header.
+// A state: what it was asked for, what it awaits, its attempt, and the number of commands sent.
 pub struct Collection {
     pub plan: Plan,
     pub phase: Phase,
-    pub attempt: u32,
+    pub attempt: Attempt,
     pub count: u64,
-    pub generation: u8,
-    pub last: [u32; 4],
 }
 
-// An ending: its answer, whether a newer capture was acknowledged unread, and the number of commands sent.
-pub struct Ending {
-    pub answer: u8,
-    pub newer: bool,
+// How a collection ended, and after how many commands.
+pub struct Finish {
+    pub ending: Ending,
     pub count: u64,
 }
 
 // What follows: the next command, the ending, or a refusal that changed nothing.
 pub enum Next {
     Send(Words),
-    Ended(Ending),
-    Refused(u8),
+    End(Finish),
+    Refuse(u8),
 }
 
 pub struct Stepped {
@@ -48,30 +47,10 @@ pub struct Stepped {
     pub next: Next,
 }
 
-// What happens to the copy: the data goes to a place, zeros from a place on, zeros everywhere.
-pub enum Touch {
-    Nothing,
-    Place(usize),
-    Tail(usize),
-    All,
-}
-
+// A step, and what happens to the copy with it.
 pub struct Decided {
     pub stepped: Stepped,
     pub touch: Touch,
-}
-
-fn ended(phase: Phase) -> bool
-    ensures { λ r. ⌜ r ≡ endedBy phase ⌝ }
-{
-    match phase {
-        Phase::First => false,
-        Phase::Chunk(_) => false,
-        Phase::Close => false,
-        Phase::CloseRefused => false,
-        Phase::Ack => false,
-        Phase::Ended => true,
-    }
 }
 
 fn most_count(attempts: u32) -> u64
@@ -81,36 +60,42 @@ fn most_count(attempts: u32) -> u64
 }
 
 impl Collection {
+    fn due(self) -> Due
+        ensures { λ r. ⌜ r ≡ dueOf self ⌝ }
+    {
+        let plan = self.plan;
+        let phase = self.phase;
+        let attempt = self.attempt;
+        let last = attempt.last;
+        plans::awaited(phase, plan, last)
+    }
+
     // The command that is awaited: five zero words after the ending.
     pub fn awaited(self) -> Words
         ensures { λ r. ⌜ r ≡ awaitedOf self ⌝ }
     {
-        let plan = self.plan;
-        let phase = self.phase;
-        let last = self.last;
-        course::awaited(phase, plan, last)
+        let due = self.due();
+        due.words
     }
 
-    fn state_ok(self) -> bool
-        ensures { λ r. ⌜ r ≡ stateOk self ⌝ }
+    fn valid(self) -> bool
+        ensures { λ r. ⌜ r ≡ validState self ⌝ }
     {
         let plan = self.plan;
-        let phase = self.phase;
-        let last = self.last;
-        (course::setup_answer(plan) == answers::SUCCESS)
-            & ((1 <= self.attempt) & (self.attempt <= plan.attempts))
+        let attempt = self.attempt;
+        let due = self.due();
+        (plans::setup_answer(plan) == answers::SUCCESS)
+            & ((1 <= attempt.number) & (attempt.number <= plan.attempts))
             & (self.count <= most_count(plan.attempts))
-            & course::within(phase, plan, last)
+            & due.within
     }
 
     fn completion_fits(self, ok: bool, bytes: usize, copy: usize) -> bool
         ensures { λ r. ⌜ r ≡ completionFits self ok bytes copy ⌝ }
     {
         let plan = self.plan;
-        let phase = self.phase;
-        let last = self.last;
-        let due = course::expected(phase, plan, last);
-        (copy == plan.room) & (bytes == choices::pick_usize(ok, due, 0))
+        let due = self.due();
+        (copy == plan.room) & (bytes == choices::pick_usize(ok, due.bytes, 0))
     }
 
     // 14, 13, 15, or 0.
@@ -118,136 +103,57 @@ impl Collection {
         ensures { λ r. ⌜ r ≡ refusalOf self ok bytes copy ⌝ }
     {
         let phase = self.phase;
-        let over = ended(phase);
-        let bad = !self.state_ok();
+        let over = plans::ended(phase);
+        let bad = !self.valid();
         let unfit = !self.completion_fits(ok, bytes, copy);
         let fit = choices::pick_u8(unfit, answers::DOES_NOT_FIT, answers::SUCCESS);
         let kept = choices::pick_u8(bad, answers::BAD_SETUP, fit);
         choices::pick_u8(over, answers::ALREADY_ENDED, kept)
     }
 
-    // The header seen matches the attempt's header.
-    fn matched(self, h: Seen) -> bool
-        ensures { λ r. ⌜ r ≡ matches self h ⌝ }
-    {
-        h.generation == self.generation
-    }
-
-    // The acknowledgement seen shows another generation than the attempt's header.
-    fn newer(self, h: Seen) -> bool
-        ensures { λ r. ⌜ r ≡ newerThan self h ⌝ }
-    {
-        !(h.generation == self.generation)
-    }
-
-    fn judged(self, ok: bool, h: Seen) -> Move
-        ensures { λ r. ⌜ r ≡ moveOf self ok h ⌝ }
+    // The state that a turn leads to, after this many commands.
+    fn turned(self, t: Turn, count: u64) -> Collection
+        requires { ⌜ Bounded self ⌝ }
+        ensures { λ r. ⌜ r ≡ turnedTo self t count ⌝ }
     {
         let plan = self.plan;
-        let phase = self.phase;
-        course::judge(
-            phase,
-            plan,
-            self.attempt,
-            self.matched(h),
-            self.newer(h),
-            ok,
-            h,
-        )
-    }
-
-    fn in_phase(self, phase: Phase) -> Collection
-        ensures { λ r. ⌜ r ≡ inPhase self phase ⌝ }
-    {
-        let plan = self.plan;
-        let last = self.last;
-        Collection {
-            plan,
-            phase,
-            attempt: self.attempt,
-            count: self.count,
-            generation: self.generation,
+        let old = self.attempt;
+        let phase = t.phase;
+        let last = t.last;
+        let attempt = Attempt {
+            number: choices::pick_u32(t.next, old.number + 1, old.number),
+            generation: t.generation,
             last,
-        }
-    }
-
-    // The number of this attempt, or of the next one.
-    fn attempt_of(self, next: bool) -> u32
-        requires { ⌜ self .attempt ≤ mostAttempts ⌝ }
-        ensures { λ r. ⌜ r ≡ attemptOf self next ⌝ }
-    {
-        choices::pick_u32(next, self.attempt + 1, self.attempt)
-    }
-
-    fn opened(self, next: bool, h: Seen) -> Collection
-        requires { ⌜ self .attempt ≤ mostAttempts ⌝ }
-        ensures { λ r. ⌜ r ≡ openedOf self next h ⌝ }
-    {
-        let attempt = self.attempt_of(next);
-        let plan = self.plan;
-        let last = h.last;
-        let phase = course::opening(plan, last);
+        };
         Collection {
             plan,
             phase,
             attempt,
-            count: self.count,
-            generation: h.generation,
-            last,
+            count,
         }
     }
 
     // The command that the state awaits is sent.
-    fn sent(self, count: u64, touch: Touch) -> Decided
-        ensures { λ r. ⌜ r ≡ sentOf self count touch ⌝ }
+    fn sent(self) -> Stepped
+        ensures { λ r. ⌜ r ≡ sends self ⌝ }
     {
         let words = self.awaited();
-        let plan = self.plan;
-        let phase = self.phase;
-        let last = self.last;
-        let state = Collection {
-            plan,
-            phase,
-            attempt: self.attempt,
-            count,
-            generation: self.generation,
-            last,
-        };
-        Decided {
-            stepped: Stepped {
-                state,
-                next: Next::Send(words),
-            },
-            touch,
+        Stepped {
+            state: self,
+            next: Next::Send(words),
         }
     }
 
-    fn over(self, next: bool, answer: u8, newer: bool, touch: Touch) -> Decided
-        requires { ⌜ self .attempt ≤ mostAttempts ⌝ }
-        ensures { λ r. ⌜ r ≡ overOf self next answer newer touch ⌝ }
+    fn over(self, ending: Ending) -> Stepped
+        ensures { λ r. ⌜ r ≡ ends self ending ⌝ }
     {
-        let attempt = self.attempt_of(next);
-        let plan = self.plan;
-        let last = self.last;
-        let count = self.count;
-        let state = Collection {
-            plan,
-            phase: Phase::Ended,
-            attempt,
-            count,
-            generation: self.generation,
-            last,
+        let finish = Finish {
+            ending,
+            count: self.count,
         };
-        Decided {
-            stepped: Stepped {
-                state,
-                next: Next::Ended(Ending {
-                    answer,
-                    newer,
-                    count,
-                }),
-            },
-            touch,
+        Stepped {
+            state: self,
+            next: Next::End(finish),
         }
     }
 
@@ -257,41 +163,41 @@ impl Collection {
         Decided {
             stepped: Stepped {
                 state: self,
-                next: Next::Refused(answer),
+                next: Next::Refuse(answer),
             },
-            touch: Touch::Nothing,
+            touch: Touch::Keep,
         }
     }
 
-    fn act(self, h: Seen, m: Move) -> Decided
-        requires { ⌜ Sane self × MoveOk m ⌝ }
-        ensures { λ r. ⌜ r ≡ actOf self h m ⌝ }
+    // Every command sent is counted.
+    fn act(self, m: Move, t: Turn) -> Stepped
+        requires { ⌜ Bounded self ⌝ }
+        ensures { λ r. ⌜ r ≡ actOf self m t ⌝ }
     {
-        let plan = self.plan;
-        let last = self.last;
         let before = self.count;
         let count = before + 1;
-        let tail = Touch::Tail(course::area_bytes(plan, last));
         match m {
-            Move::Fail(answer, next) => self.over(next, answer, false, Touch::All),
-            Move::Open(next) => self.opened(next, h).sent(count, Touch::Nothing),
-            Move::More(at) => self.in_phase(course::following(plan, last, at))
-                .sent(count, Touch::Place(place_of(at))),
-            Move::Skip => self.in_phase(Phase::CloseRefused)
-                .sent(count, Touch::Nothing),
-            Move::Acknowledge => self.in_phase(Phase::Ack).sent(count, Touch::Nothing),
-            Move::Done(newer) => self.over(false, answers::SUCCESS, newer, tail),
+            Move::End(ending, _) => self.turned(t, before).over(ending),
+            Move::Open(_) | Move::More(_) | Move::Skip | Move::Acknowledge => self.turned(t, count)
+                .sent(),
         }
     }
 
     // The next state, with the next command or the ending, and what happens to the copy, from what is known of a completion: that it is
-    // a success, its data's length, what was seen of the data (`course::look`), and the length of the copy.
+    // a success, its data's length, what was seen of the data (`completions::look`), and the length of the copy.
     pub fn decide(self, ok: bool, bytes: usize, copy: usize, seen: Seen) -> Decided
         ensures { λ r. ⌜ r ≡ decideOf self ok bytes copy seen ⌝ }
     {
+        let plan = self.plan;
+        let phase = self.phase;
+        let attempt = self.attempt;
         let answer = self.refusal(ok, bytes, copy);
         if answer == answers::SUCCESS {
-            return self.act(seen, self.judged(ok, seen));
+            let m = judgement::judge(phase, plan, attempt, ok, seen);
+            let t = turns::turn_of(plan, attempt, seen, m);
+            let touch = t.touch;
+            let stepped = self.act(m, t);
+            return Decided { stepped, touch };
         }
         self.refused(answer)
     }
@@ -303,53 +209,27 @@ impl Collection {
     {
         let plan = self.plan;
         let phase = self.phase;
-        let seen = course::look(phase, plan, data);
+        let seen = completions::look(phase, plan, data);
         let decided = self.decide(ok, data.len(), copy.len(), seen);
         let touch = decided.touch;
-        move_bytes(touch, data, copy);
+        completions::settle(touch, data, copy);
         decided.stepped
-    }
-}
-
-// Where the chunk at a block goes: its offset less the header.
-fn place_of(at: u32) -> usize
-    requires { ⌜ 1 ≤ at ⌝ }
-    ensures { λ r. ⌜ r ≡ block * (at - 1) ⌝ }
-{
-    pages::BLOCK * ((at - 1) as usize)
-}
-
-fn move_bytes(touch: Touch, data: &[u8], copy: &mut [u8])
-    ensures { λ _. ⌜ now (copy .exit) ≡ touched touch (now («data» .entry)) (now (copy .entry)) ⌝ }
-{
-    match touch {
-        Touch::Nothing => (),
-        Touch::Place(place) => copies::put(data, copy, place),
-        Touch::Tail(place) => zeros_from(copy, place),
-        Touch::All => zeros_from(copy, 0),
-    }
-}
-
-// Zeros from a place on; where the copy ends before it, the copy stays as it is.
-fn zeros_from(copy: &mut [u8], place: usize)
-    ensures { λ _. ⌜ now (copy .exit) ≡ zerosFrom (now (copy .entry)) place ⌝ }
-{
-    if place <= copy.len() {
-        let left = copy.len() - place;
-        copies::put_zeros(left, copy, place);
     }
 }
 
 fn beginning_of(plan: Plan, phase: Phase, count: u64) -> Collection
     ensures { λ r. ⌜ r ≡ beginning plan phase count ⌝ }
 {
+    let attempt = Attempt {
+        number: 1,
+        generation: 0,
+        last: [0; 4],
+    };
     Collection {
         plan,
         phase,
-        attempt: 1,
+        attempt,
         count,
-        generation: 0,
-        last: [0; 4],
     }
 }
 
@@ -357,7 +237,7 @@ fn beginning_of(plan: Plan, phase: Phase, count: u64) -> Collection
 pub fn setup(plan: Plan) -> Stepped
     ensures { λ r. ⌜ r ≡ setupOf plan ⌝ }
 {
-    let answer = course::setup_answer(plan);
+    let answer = plans::setup_answer(plan);
     if answer == answers::SUCCESS {
         let state = beginning_of(plan, Phase::First, 1);
         let words = state.awaited();
@@ -369,6 +249,6 @@ pub fn setup(plan: Plan) -> Stepped
     let state = beginning_of(plan, Phase::Ended, 0);
     Stepped {
         state,
-        next: Next::Refused(answer),
+        next: Next::Refuse(answer),
     }
 }

@@ -1,7 +1,7 @@
 -- Demand 3, of the project's own controller and collection.
 -- Assumes nothing.
 use Prim.Native.Nat.{ℕ, _+_, _-_, _*_, _≤_, _<_}
-use mathlib.Core.Path.{_≡_, subst}
+use mathlib.Core.Path.{_≡_, subst, ap}
 use mathlib.Core.List.{List, _++_}
 use mathlib.Core.Bool.{true, false}
 use lib.ListN.{length}
@@ -12,11 +12,13 @@ use Rattle.copies.specs.Parts.{zeros}
 use Rattle.answers.specs.Answers.{success, noRoom, withdrawn, nothing}
 use Rattle.pages.specs.Pages.{controllerPage, block, most4}
 use Rattle.records.specs.Records.{controllerFields, fieldsFor}
-use Rattle.course.specs.declared.Plan.{Plan}
-use Rattle.course.specs.declared.Phase.the-variants.{First}
-use Rattle.course.specs.Course.{setupAnswer, areaLast, awaitedBy, showsNone}
-use Rattle.collection.specs.declared.Ending.{Ending}
-use Rattle.collection.specs.declared.Next.the-variants.{Ended as Ends, Refused}
+use Rattle.plans.specs.declared.Plan.{Plan}
+use Rattle.plans.specs.declared.Phase.the-variants.{First}
+use Rattle.plans.specs.Plans.{setupAnswer, areaLast, wordsBy}
+use Rattle.completions.specs.Completions.{showsNone}
+use Rattle.judgement.specs.Endings.{numberOf, newerOf}
+use Rattle.collection.specs.declared.Finish.{Finish}
+use Rattle.collection.specs.declared.Next.the-variants.{End as Ends, Refuse}
 use Rattle.verdicts.specs.Accepted.{unless-disagree}
 use Rattle.controller.specs.Controller.{World, lentBy}
 use Rattle.controller.specs.Laws.{Typed, asked, command-answer}
@@ -46,27 +48,27 @@ module _ (p : Plan) (copy : List ℕ) (w : World) (first : Loan) (ts : List (Tur
     -- at most k captures of the page after the first command, k at most 255, and more than k attempts
     pub few : k ≤ 255
     pub attempts : k < p .attempts
-    pub captures : final .captures ≤ k
+    pub captures : final .counts .captures ≤ k
     -- none of the run's commands was answered 3, 4 or 5
-    pub spared : final .lentRefusals ≡ 0
+    pub spared : final .counts .lentRefusals ≡ 0
 
   -- ---- what is promised
 
   -- how it may end, v being the controller at the last check, the last header that was judged
-  pub data Ended (e : Ending) (v : World) : Type 0 where
+  pub data TrueEnding (e : Finish) (v : World) : Type 0 where
     -- 0: the copy is the wanted area of v and then zeros; a newer capture is said to be unread just where one came after the last check
-    succeeded-by : e .answer ≡ success → final .copy ≡ wantedArea p v ++ zeros (p .room - length (wantedArea p v)) → e .newer ≡ ltb 0 (final .since) → Ended e v
+    succeeded-by : numberOf (e .ending) ≡ success → final .copy ≡ wantedArea p v ++ zeros (p .room - length (wantedArea p v)) → newerOf (e .ending) ≡ ltb 0 (final .counts .since) → TrueEnding e v
     -- 8: the wanted area of v is larger than the copy, which is zeros
-    room-short : e .answer ≡ noRoom → final .copy ≡ zeros (p .room) → p .room < block * areaLast p (fieldsFor (p .page) (v .own) .last) → Ended e v
+    room-short : numberOf (e .ending) ≡ noRoom → final .copy ≡ zeros (p .room) → p .room < block * areaLast p (fieldsFor (p .page) (v .own) .last) → TrueEnding e v
     -- 10: the page is 08h, and its TCDA went to 0 after the first header
-    gone : e .answer ≡ withdrawn → final .copy ≡ zeros (p .room) → p .page ≡ controllerPage → v .own .controller .tcda ≡ 0 → 2 ≤ length (final .sent) → Ended e v
+    gone : numberOf (e .ending) ≡ withdrawn → final .copy ≡ zeros (p .room) → p .page ≡ controllerPage → v .own .controller .tcda ≡ 0 → 2 ≤ length (final .sent) → TrueEnding e v
     -- 11: the page is 08h, and its TCDA was 0 at the first header
-    never-there : e .answer ≡ nothing → final .copy ≡ zeros (p .room) → p .page ≡ controllerPage → v .own .controller .tcda ≡ 0 → length (final .sent) ≡ 1 → Ended e v
+    never-there : numberOf (e .ending) ≡ nothing → final .copy ≡ zeros (p .room) → p .page ≡ controllerPage → v .own .controller .tcda ≡ 0 → length (final .sent) ≡ 1 → TrueEnding e v
 
   pub record Demand3 (k : ℕ) : Type 0 where
     -- the reported count is the number of commands in the run's record
     pub counted : final .collection .count ≡ length (final .sent)
-    pub says : (e : Ending) → final .said ≡ Ends e → e .count ≡ length (final .sent)
+    pub says : (e : Finish) → final .said ≡ Ends e → e .count ≡ length (final .sent)
     -- it is within 1 + (k + 1)(C + 1), one more on 08h, C being the most chunks that an attempt's header called for, and also with C at the house
     -- limit
     pub bounded : final .collection .count ≤ mostCommands p k (final .most)
@@ -75,9 +77,9 @@ module _ (p : Plan) (copy : List ℕ) (w : World) (first : Loan) (ts : List (Tur
     pub ends : mostCommands p k (final .most) ≤ 1 + length ts → Finished (controllerSource (p .page)) final
     pub ends-limited : mostCommands p k most4 ≤ 1 + length ts → Finished (controllerSource (p .page)) final
     -- never 13, 14 or 15
-    pub never : (n : ℕ) → final .said ≡ Refused n → ⊥
+    pub never : (n : ℕ) → final .said ≡ Refuse n → ⊥
     -- every ending is one of the four, and true
-    pub ended : (e : Ending) → final .said ≡ Ends e → Ended e (final .checked)
+    pub ended : (e : Finish) → final .said ≡ Ends e → TrueEnding e (final .checked)
 
   -- ---- the theorem
 
@@ -89,18 +91,18 @@ module _ (p : Plan) (copy : List ℕ) (w : World) (first : Loan) (ts : List (Tur
       let z = eqb-true _ 0 (and-right (eqb (p .page) controllerPage) (eqb (fieldsFor (p .page) (final .checked .own) .tcda) 0) n) in
       (q, subst (λ (page : ℕ). fieldsFor page (final .checked .own) .tcda ≡ 0) q z)
 
-  told : (e : setupAnswer p ≡ success) (x : Ending) → Told (controllerSource (p .page)) p (controllerKeeps p e) x final → Ended x (final .checked)
+  told : (e : setupAnswer p ≡ success) (x : Finish) → Told (controllerSource (p .page)) p (controllerKeeps p e) x final → TrueEnding x (final .checked)
   unfolding controllerKeeps showsFor
-  told e x (succeeded a c l n) = succeeded-by a c n
-  told e x (lacked a c r) = room-short a c r
-  told e x (withdrew a c n t) = let q = none-shown n in gone a c (q .0) (q .1) t
-  told e x (empty a c n t) = let q = none-shown n in never-there a c (q .0) (q .1) t
+  told e x (succeeded a c l) = succeeded-by (ap numberOf a) c (ap newerOf a)
+  told e x (lacked a c r) = room-short (ap numberOf a) c r
+  told e x (withdrew a c n t) = let q = none-shown n in gone (ap numberOf a) c (q .0) (q .1) t
+  told e x (empty a c n t) = let q = none-shown n in never-there (ap numberOf a) c (q .0) (q .1) t
 
   -- a first command that is not answered 4 finds an agreeing controller
   good : (k : ℕ) → Asked k → Good p w
   unfolding final ownOf
   good k a =
-      let words = awaitedBy First p (zeros 4) in
+      let words = wordsBy First p (zeros 4) in
       let fair = first-fair (controllerSource (p .page)) p (controllerKeeps p (a .taken)) copy w first ts (a .taken) (a .spared) in
       let answer = command-answer w (first .candidate) words (first .buf) in
       record {

@@ -18,9 +18,10 @@ use Rattle.words.specs.declared.Command.{Command}
 use Rattle.words.specs.declared.Words.{Words}
 use Rattle.records.specs.Records.{hostFields, controllerFields, fieldsFor}
 use Rattle.verdicts.specs.Verdicts.{captureAnswer}
-use Rattle.course.specs.declared.Plan.{Plan}
-use Rattle.course.specs.Course.{setupAnswer, areaBytes, showsNone}
-use Rattle.collection.specs.Laws.{same-or-not}
+use Rattle.plans.specs.declared.Plan.{Plan}
+use Rattle.plans.specs.Plans.{setupAnswer, areaBytes}
+use Rattle.completions.specs.Completions.{showsNone}
+use Rattle.choices.specs.Tests.{same-or-not}
 use Rattle.controller.specs.Controller.{World, world, Candidate, Outcome, storeFor, clearedOf, hostCaptured, controllerCaptured, before, afterwards, captureOf, captureAnswered, lentBy}
 use Rattle.controller.specs.Steps.{create-host, host-stays, captured, no-capture}
 use Rattle.controller.specs.Laws.{asked, verdict, command-done, command-refused, command-agrees, command-typed, captured-agrees, captured-typed}

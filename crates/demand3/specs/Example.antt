@@ -7,7 +7,6 @@ use mathlib.Core.Bool.{true, false}
 use native.Mathlib.Omega.{arith}
 use Rattle.choices.specs.Tests.{holds}
 use Rattle.copies.specs.Parts.{zeros, putAt}
-use Rattle.answers.specs.Answers.{success}
 use Rattle.pages.specs.declared.Caps.{Caps}
 use Rattle.pages.specs.Pages.{lastOk, greatestOf, blocksOf, sizeOf, topOf, trimmedTo, trimOf}
 use Rattle.words.specs.Words.{taken, builtOf}
@@ -15,10 +14,14 @@ use Rattle.header.specs.Header.{headerOf, faultOf, checkOf}
 use Rattle.records.specs.Records.{identityOk, storeOk, controllerOk, agreesWith, hostFields, controllerFields, fieldsFor, freshOf}
 use Rattle.serving.specs.Serving.{windowOf, pageBytes}
 use Rattle.verdicts.specs.Verdicts.{candidateOk, fieldBad, lastAfter, commandAnswer}
-use Rattle.course.specs.declared.Plan.{Plan}
-use Rattle.course.specs.Course.{setupAnswer, fitsRoom, withinBy, phaseAt, builtBy, awaitedBy, lookBy, seenOf, generationOf, firstJudge, laterJudge, mismatchJudge, judgeBy}
-use Rattle.collection.specs.declared.Next.the-variants.{Ended as Ends}
-use Rattle.collection.specs.Collection.{setupOf, stepOf, decideOf, refusalOf, stateOk, completionFits, expectedOf, lookOf, matches, moveOf, actOf as moved, awaitedOf, touched, copyAfter}
+use Rattle.plans.specs.declared.Plan.{Plan}
+use Rattle.plans.specs.Plans.{setupAnswer, fitsRoom, withinBy, phaseAt, wordsBy}
+use Rattle.completions.specs.Completions.{lookBy, seenOf, generationOf, touched}
+use Rattle.judgement.specs.declared.Ending.the-variants.{Success}
+use Rattle.judgement.specs.Judgement.{judgeBy, testsOf, firstOrder, matchOrder, laterOrder}
+use Rattle.turns.specs.Turns.{turnOf}
+use Rattle.collection.specs.Collection.{setupOf, stepOf, decideOf, refusalOf, validState, completionFits, expectedOf, lookOf, moveOf, turnBy, actOf as moved, awaitedOf, copyAfter}
+use Rattle.collection.specs.declared.Next.the-variants.{End as Ends}
 use Rattle.controller.specs.Controller.{World, world, Candidate, candidateOf, commandOf, answered, before, afterwards, sentOf, pageOf, hostCaptured}
 use Rattle.sources.specs.Source.{Turn, happens, happen, hears, run, begun, collected}
 use Rattle.sources.specs.Promise.{mostCommands}
@@ -49,12 +52,12 @@ turns =
     ∷ record { events = []; lent = loan }
     ∷ []
 
-pub example : (final plan [] fresh loan turns .said ≡ Ends (record { answer = success; newer = false; count = 3 })) × (mostCommands plan 1 0 ≡ 3)
-unfolding final collected run happen happens hears begun setupOf setupAnswer holds stepOf decideOf refusalOf stateOk withinBy fitsRoom completionFits expectedOf lookOf lookBy seenOf checkOf faultOf lastOk generationOf moveOf judgeBy firstJudge laterJudge mismatchJudge moved awaitedOf awaitedBy builtBy builtOf taken phaseAt matches copyAfter touched putAt commandOf answered commandAnswer agreesWith storeOk controllerOk identityOk greatestOf fieldBad lastAfter candidateOk sizeOf blocksOf topOf trimmedTo trimOf before afterwards sentOf pageOf pageBytes windowOf headerOf hostFields controllerFields fieldsFor freshOf hostCaptured ownOf actOf capturesOf
+pub example : (final plan [] fresh loan turns .said ≡ Ends (record { ending = Success false; count = 3 })) × (mostCommands plan 1 0 ≡ 3)
+unfolding final collected run happen happens hears begun setupOf setupAnswer holds stepOf decideOf refusalOf validState withinBy fitsRoom completionFits expectedOf lookOf lookBy seenOf checkOf faultOf lastOk generationOf moveOf judgeBy testsOf firstOrder matchOrder laterOrder turnBy turnOf moved awaitedOf wordsBy builtOf taken phaseAt copyAfter touched putAt commandOf answered commandAnswer agreesWith storeOk controllerOk identityOk greatestOf fieldBad lastAfter candidateOk sizeOf blocksOf topOf trimmedTo trimOf before afterwards sentOf pageOf pageBytes windowOf headerOf hostFields controllerFields fieldsFor freshOf hostCaptured ownOf actOf capturesOf
 example = (refl, refl)
 
 pub asked : Asked plan [] fresh loan turns 1
-unfolding final collected run happen happens hears begun setupOf setupAnswer holds stepOf decideOf refusalOf stateOk withinBy fitsRoom completionFits expectedOf lookOf lookBy seenOf checkOf faultOf lastOk generationOf moveOf judgeBy firstJudge laterJudge mismatchJudge moved awaitedOf awaitedBy builtBy builtOf taken phaseAt matches copyAfter touched putAt commandOf answered commandAnswer agreesWith storeOk controllerOk identityOk greatestOf fieldBad lastAfter candidateOk sizeOf blocksOf topOf trimmedTo trimOf before afterwards sentOf pageOf pageBytes windowOf headerOf hostFields controllerFields fieldsFor freshOf hostCaptured ownOf actOf capturesOf
+unfolding final collected run happen happens hears begun setupOf setupAnswer holds stepOf decideOf refusalOf validState withinBy fitsRoom completionFits expectedOf lookOf lookBy seenOf checkOf faultOf lastOk generationOf moveOf judgeBy testsOf firstOrder matchOrder laterOrder turnBy turnOf moved awaitedOf wordsBy builtOf taken phaseAt copyAfter touched putAt commandOf answered commandAnswer agreesWith storeOk controllerOk identityOk greatestOf fieldBad lastAfter candidateOk sizeOf blocksOf topOf trimmedTo trimOf before afterwards sentOf pageOf pageBytes windowOf headerOf hostFields controllerFields fieldsFor freshOf hostCaptured ownOf actOf capturesOf
 asked = record {
   taken = refl;
   caps = refl;

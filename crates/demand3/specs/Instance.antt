@@ -11,13 +11,14 @@ use Rattle.choices.specs.Tests.{by-test, clash, each, or-cases}
 use Rattle.answers.specs.Answers.{success}
 use Rattle.pages.specs.Pages.{hostPage, controllerPage}
 use Rattle.words.specs.declared.Words.{Words}
-use Rattle.course.specs.declared.Plan.{Plan}
-use Rattle.course.specs.declared.Phase.{Phase}
-use Rattle.course.specs.declared.Phase.the-variants.{First, Chunk, Close, CloseRefused, Ack, Ended}
-use Rattle.course.specs.Course.{planTests, setupAnswer, mcdaOf, awaitedBy, builtBy}
-use Rattle.course.specs.Laws.{plan-taken, plan-limits}
-use Rattle.course.specs.Awaited.{first-mcda}
-use Rattle.collection.specs.Laws.{closingBy}
+use Rattle.header.specs.Header.{faultless}
+use Rattle.plans.specs.declared.Plan.{Plan}
+use Rattle.plans.specs.declared.Phase.{Phase}
+use Rattle.plans.specs.declared.Phase.the-variants.{First, Chunk, Close, Ack, Ended}
+use Rattle.plans.specs.Awaited.{first-mcda}
+use Rattle.plans.specs.Limits.{plan-taken, plan-limits}
+use Rattle.plans.specs.Phases.{closingBy}
+use Rattle.plans.specs.Plans.{planTests, setupAnswer, mcdaOf, wordsBy}
 use Rattle.controller.specs.Controller.{World}
 use Rattle.controller.specs.Own.{sends, retained}
 use Rattle.sources.specs.Source.{forLent}
@@ -39,7 +40,7 @@ module _ (p : Plan) (e : setupAnswer p ≡ success) where
   unfolding showsFor
   byte w g = by-test (eqb (p .page) hostPage) (λ q. rw q (g .typed .host-byte)) (λ q. rw q (g .typed .controller-byte))
 
-  pub sound : (w : World) → showsFor (p .page) w .good ≡ true
+  pub sound : (w : World) → faultless (showsFor (p .page) w .fault) ≡ true
   unfolding showsFor
   sound w = refl
 
@@ -51,8 +52,8 @@ module _ (p : Plan) (e : setupAnswer p ≡ success) where
   abbrev pub First-law : Loan → World → Words → Type 0
   First-law l w words = forLent (ownOf l words w .answer) ≡ false → Header p (ownOf l words w) (showsFor (p .page) (ownOf l words w .source))
 
-  pub first-law : (l : Loan) (last : List ℕ) (w : World) → Good p w → First-law l w (awaitedBy First p last)
-  unfolding awaitedBy builtBy
+  pub first-law : (l : Loan) (last : List ℕ) (w : World) → Good p w → First-law l w (wordsBy First p last)
+  unfolding wordsBy
   first-law l last w g =
       by-test (p .create)
       (λ c.
@@ -71,19 +72,18 @@ module _ (p : Plan) (e : setupAnswer p ≡ success) where
       subst (λ (v : World). Header p (ownOf l (sends (p .page) false 0 true 0 1) w) (showsFor (p .page) v)) (sym same) (k .0)))
 
   -- a later header
-  pub closing-law : (f : Phase) → closingBy f ≡ true → (l : Loan) (last : List ℕ) (w : World) → Good p w → forLent (ownOf l (awaitedBy f p last) w .answer) ≡ false
-      → Header p (ownOf l (awaitedBy f p last) w) (showsFor (p .page) w)
-      × (ownOf l (awaitedBy f p last) w .source ≡ w)
-  unfolding awaitedBy builtBy
+  pub closing-law : (f : Phase) → closingBy f ≡ true → (l : Loan) (last : List ℕ) (w : World) → Good p w → forLent (ownOf l (wordsBy f p last) w .answer) ≡ false
+      → Header p (ownOf l (wordsBy f p last) w) (showsFor (p .page) w)
+      × (ownOf l (wordsBy f p last) w .source ≡ w)
+  unfolding wordsBy
   closing-law First c l last w g f = clash {t = true} refl (sym c)
   closing-law (Chunk at) c l last w g f = clash {t = true} refl (sym c)
-  closing-law Close c l last w g f = let k = own-header-law p e w g l true f in (k .0, k .1 ∙ retained w (p .page) false 0 0 1)
-  closing-law CloseRefused c l last w g f = let k = own-header-law p e w g l true f in (k .0, k .1 ∙ retained w (p .page) false 0 0 1)
+  closing-law (Close after) c l last w g f = let k = own-header-law p e w g l true f in (k .0, k .1 ∙ retained w (p .page) false 0 0 1)
   closing-law Ack c l last w g f = clash {t = true} refl (sym c)
   closing-law Ended c l last w g f = clash {t = true} refl (sym c)
 
   unfoldable pub controllerKeeps : Keeps (controllerSource (p .page)) p
-  unfolding awaitedBy builtBy
+  unfolding wordsBy
   controllerKeeps = record {
     Good = Good p;
     shows = showsFor (p .page);
@@ -94,7 +94,7 @@ module _ (p : Plan) (e : setupAnswer p ≡ success) where
     act-good = λ x w g. act-good p x w g;
     moves = λ x w g. moves x w g;
     quiet = λ x w g. act-quiet p e x w g;
-    first = λ l last w g f. (first-law l last w g f, own-good p e w g l (awaitedBy First p last));
+    first = λ l last w g f. (first-law l last w g f, own-good p e w g l (wordsBy First p last));
     closing = closing-law;
     chunk = λ at l last w g r i f. (chunk-keeps p e w g l at last r i f, chunk-long p e w g l at last r i f, chunk-right p e w g l at last r i f);
     ack = λ l last w g f. own-header-law p e w g l false f .0;

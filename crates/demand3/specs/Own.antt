@@ -23,12 +23,13 @@ use Rattle.records.specs.Records.{fieldsFor}
 use Rattle.serving.specs.Serving.{windowOf, window-length}
 use Rattle.verdicts.specs.Verdicts.{candidateOk, lastAfter, commandAnswer}
 use Rattle.verdicts.specs.Accepted.{accepted, spared}
-use Rattle.course.specs.declared.Plan.{Plan}
-use Rattle.course.specs.Course.{planTests, setupAnswer, areaLast, areaBytes, fitsRoom, chunkBlocks, insideBy, seenOf}
-use Rattle.course.specs.Laws.{plan-taken, chunk-inside, chunk-ends}
-use Rattle.course.specs.declared.Phase.the-variants.{Chunk}
-use Rattle.course.specs.Awaited.{chunk-taken}
-use Rattle.collection.specs.Laws.{same-or-not}
+use Rattle.plans.specs.declared.Plan.{Plan}
+use Rattle.plans.specs.Awaited.{chunk-taken}
+use Rattle.plans.specs.Limits.{plan-taken, chunk-inside, chunk-ends}
+use Rattle.plans.specs.Plans.{planTests, setupAnswer, areaLast, areaBytes, fitsRoom, chunkBlocks, insideBy}
+use Rattle.completions.specs.Completions.{seenOf}
+use Rattle.choices.specs.Tests.{same-or-not}
+use Rattle.plans.specs.declared.Phase.the-variants.{Chunk}
 use Rattle.controller.specs.Controller.{World, Candidate, Outcome, outcome, lentBy, afterwards, hostCaptured, commandOf, storeFor, pageOf}
 use Rattle.controller.specs.Laws.{asked, command-answer, refusal-changes-nothing}
 use Rattle.controller.specs.Own.{Ready, sends, asked-is, valid, header-taken, create-taken, last-read, readDone, own-read, own-header, own-create, own-blocks, retained}

@@ -21,10 +21,11 @@ use Rattle.header.specs.Back.{header-length}
 use Rattle.records.specs.Records.{hostFields, controllerFields, fieldsFor}
 use Rattle.records.specs.Back.{agreed, record-reads-back}
 use Rattle.serving.specs.Serving.{windowOf, window-length}
-use Rattle.course.specs.declared.Plan.{Plan}
-use Rattle.course.specs.declared.Seen.{Seen}
-use Rattle.course.specs.Course.{planTests, setupAnswer, areaLast, areaBytes, generationOf, seenOf}
-use Rattle.course.specs.Laws.{plan-taken, plan-limits}
+use Rattle.plans.specs.declared.Plan.{Plan}
+use Rattle.completions.specs.declared.Seen.{Seen}
+use Rattle.plans.specs.Limits.{plan-taken, plan-limits}
+use Rattle.plans.specs.Plans.{planTests, setupAnswer, areaLast, areaBytes}
+use Rattle.completions.specs.Completions.{generationOf, seenOf}
 use Rattle.controller.specs.Controller.{World, storeFor, pageOf}
 use Rattle.controller.specs.Laws.{Agrees, Typed}
 use Rattle.controller.specs.Own.{own-blocks}
@@ -36,7 +37,7 @@ generationFor page w = pick (eqb page hostPage) (w .own .host .generation) (w .o
 -- what the header of a page shows
 unfoldable pub showsFor : ℕ → World → Seen
 showsFor page w = record {
-  good = true;
+  fault = None;
   tcda = fieldsFor page (w .own) .tcda;
   generation = generationFor page w;
   last = fieldsFor page (w .own) .last;

@@ -9,10 +9,10 @@ use lib.Dec.{eqb}
 use Rattle.choices.specs.Choice.{pick}
 use Rattle.answers.specs.Answers.{badSetup}
 use Rattle.words.specs.declared.Words.{Words}
-use Rattle.course.specs.declared.Plan.{Plan}
+use Rattle.plans.specs.declared.Plan.{Plan}
 use Rattle.collection.specs.declared.Collection.{Collection}
 use Rattle.collection.specs.declared.Next.{Next}
-use Rattle.collection.specs.declared.Next.the-variants.{Send, Ended as Ends, Refused}
+use Rattle.collection.specs.declared.Next.the-variants.{Send, End as Ends, Refuse}
 use Rattle.collection.specs.declared.Stepped.{Stepped}
 use Rattle.collection.specs.Collection.{stepOf, copyAfter}
 use Rattle.shared_layouts.specs.Layouts.{capsOf}
@@ -30,7 +30,7 @@ wordsList w = w .cdw10 ∷ w .cdw11 ∷ w .cdw12 ∷ w .cdw13 ∷ w .cdw14 ∷ [
 abbrev pub kindOf : Next → ℕ
 kindOf (Send w) = send
 kindOf (Ends e) = ending
-kindOf (Refused answer) = refusal
+kindOf (Refuse answer) = refusal
 
 -- what setup is asked for
 abbrev pub planOf : ℕ → ℕ → ℕ → ℕ → ℕ → ℕ → ℕ → Plan
@@ -67,4 +67,4 @@ unfoldable pub stepAt : List ℕ → Bool → List ℕ → List ℕ → StepAnsw
 stepAt s ok d copy =
     pick (stateIntact s)
     (stepAnswerOf s (stepOf (stateAt s) ok d (length copy)) (copyAfter (stateAt s) ok d copy))
-    (stepAnswer refusal s copy (nextBytes (Refused badSetup)))
+    (stepAnswer refusal s copy (nextBytes (Refuse badSetup)))

@@ -12,28 +12,27 @@ use borrow.Author.Tests.{lt-leb, eq-eqb}
 use Rattle.choices.specs.Choice.{pick-cases}
 use Rattle.choices.specs.Tests.{holds, each, by-test, clash, and-left}
 use Rattle.answers.specs.Answers.{success, badSetup}
-use Rattle.course.specs.declared.Seen.{Seen}
-use Rattle.course.specs.declared.Move.{Move}
-use Rattle.course.specs.declared.Move.the-variants.{Fail, Open, More, Skip, Acknowledge, Done}
-use Rattle.course.specs.Course.{planTests, setupAnswer}
+use Rattle.completions.specs.declared.Seen.{Seen}
+use Rattle.judgement.specs.declared.Move.{Move}
+use Rattle.judgement.specs.declared.Move.the-variants.{End, Open, More, Skip, Acknowledge}
+use Rattle.plans.specs.Plans.{planTests, setupAnswer}
 use Rattle.collection.specs.declared.Collection.{Collection}
 use Rattle.collection.specs.declared.Stepped.{Stepped}
-use Rattle.collection.specs.Collection.{refusalOf, actOf, lookOf, moveOf, stepOf}
-use Rattle.collection.specs.Steps.{refused-copy, taken-step}
+use Rattle.collection.specs.Collection.{refusalOf, lookOf, moveOf, stepOf}
+use Rattle.collection.specs.Steps.{makes, refused-copy, taken-step}
 use Rattle.shared_layouts.specs.Layouts.{mostCaps, capsOf}
 use Rattle.state_layout.specs.Layout.{stateAt, stateIntact, refusal}
 use Rattle.state_layout.specs.Back.{state-intact}
 use Rattle.host_boundary.specs.Boundary.{kindOf, planOf, stepAt}
 
 -- what a completion calls for is no refusal
-act-kind : (s : Collection) (h : Seen) (m : Move) → kindOf (actOf s h m .stepped .next) ≡ refusal → ⊥
-unfolding actOf
-act-kind s h (Fail answer next) e = omega arith
+act-kind : (s : Collection) (h : Seen) (m : Move) → kindOf (makes s h m .next) ≡ refusal → ⊥
+unfolding makes
+act-kind s h (End x next) e = omega arith
 act-kind s h (Open next) e = omega arith
 act-kind s h (More at) e = omega arith
 act-kind s h Skip e = omega arith
 act-kind s h Acknowledge e = omega arith
-act-kind s h (Done newer) e = omega arith
 
 module _ (s : List ℕ) (ok : Bool) (d copy : List ℕ) where
   refused-unread : kindOf (stepOf (stateAt s) ok d (length copy) .next) ≡ refusal

@@ -11,7 +11,7 @@ use Rattle.words.specs.declared.Built.{Built}
 use Rattle.header.specs.declared.Checked.{Checked}
 use Rattle.header.specs.Header.{answerOf}
 use Rattle.collection.specs.declared.Collection.{Collection}
-use Rattle.collection.specs.declared.Next.the-variants.{Refused}
+use Rattle.collection.specs.declared.Next.the-variants.{Refuse}
 use Rattle.collection.specs.declared.Stepped.{Stepped}
 use Rattle.collection.specs.Collection.{stepOf, copyAfter}
 use Rattle.shared_layouts.specs.Layouts.{fieldsBytes}
@@ -42,7 +42,7 @@ pub next-state : (s : List ℕ) (k : ℕ) (after : Collection) {w : List ℕ} �
 next-state s k after n e = rw (ne-eqb k refusal n) e
 
 module _ (s : List ℕ) (ok : Bool) (d copy : List ℕ) where
-  pub step-damaged : {t : Bool} {n : List ℕ} → t ≡ stateIntact s → not t ≡ true → n ≡ nextBytes (Refused badSetup)
+  pub step-damaged : {t : Bool} {n : List ℕ} → t ≡ stateIntact s → not t ≡ true → n ≡ nextBytes (Refuse badSetup)
       → stepAnswer refusal s copy n ≡ stepAt s ok d copy
   unfolding stepAt
   step-damaged e f n = rw (sym e ∙ not-true _ f, n)

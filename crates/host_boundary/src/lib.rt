@@ -6,7 +6,7 @@
 // file is an array of its bytes here, and a pointer with a length is a slice. No copy or data is moved but by the call that serves it.
 use collection::Collection;
 use collection::Next;
-use course::Plan;
+use plans::Plan;
 use words::Words;
 ghost use mathlib.Core.Path.{_≡_};
 ghost use Rattle.words.specs.Words.{builtOf};
@@ -27,8 +27,8 @@ fn kind_of(next: Next) -> u8
 {
     match next {
         Next::Send(_) => state_layout::SEND,
-        Next::Ended(_) => state_layout::ENDED,
-        Next::Refused(_) => state_layout::REFUSED,
+        Next::End(_) => state_layout::ENDED,
+        Next::Refuse(_) => state_layout::REFUSED,
     }
 }
 
@@ -131,7 +131,7 @@ pub extern "C" fn bumbazeel_step(
 {
     let lent = *state;
     if !state_layout::state_intact(&lent) {
-        *next = state_layout::write_next(Next::Refused(answers::BAD_SETUP));
+        *next = state_layout::write_next(Next::Refuse(answers::BAD_SETUP));
         return state_layout::REFUSED;
     }
     let x = state_layout::read_state(&lent).step(ok != 0, data, copy);

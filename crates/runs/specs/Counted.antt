@@ -8,37 +8,36 @@ use native.Mathlib.Omega.{arith}
 use lib.ListN.{length, length-append}
 use Rattle.answers.specs.Answers.{success}
 use Rattle.words.specs.declared.Words.{Words}
-use Rattle.course.specs.declared.Plan.{Plan}
-use Rattle.course.specs.declared.Seen.{Seen}
-use Rattle.course.specs.declared.Move.{Move}
-use Rattle.course.specs.declared.Move.the-variants.{Fail, Open, More, Skip, Acknowledge, Done}
-use Rattle.course.specs.Course.{setupAnswer}
+use Rattle.plans.specs.declared.Plan.{Plan}
+use Rattle.completions.specs.declared.Seen.{Seen}
+use Rattle.judgement.specs.declared.Move.{Move}
+use Rattle.judgement.specs.declared.Move.the-variants.{End, Open, More, Skip, Acknowledge}
+use Rattle.plans.specs.Plans.{setupAnswer}
+use Rattle.collection.specs.Collection.{refusalOf, lookOf, moveOf, setupOf, stepOf}
+use Rattle.collection.specs.Steps.{makes, setup-taken, setup-refused, refused-step, taken-step}
+use Rattle.choices.specs.Tests.{same-or-not}
 use Rattle.collection.specs.declared.Collection.{Collection}
-use Rattle.collection.specs.declared.Ending.{Ending}
-use Rattle.collection.specs.declared.Next.the-variants.{Send, Ended as Ends}
+use Rattle.collection.specs.declared.Finish.{Finish}
+use Rattle.collection.specs.declared.Next.the-variants.{Send, End as Ends}
 use Rattle.collection.specs.declared.Stepped.{Stepped}
-use Rattle.collection.specs.Collection.{refusalOf, lookOf, moveOf, actOf, setupOf, stepOf}
-use Rattle.collection.specs.Laws.{same-or-not}
-use Rattle.collection.specs.Steps.{setup-taken, setup-refused, refused-step, taken-step}
 use Rattle.runs.specs.Run.{Completion, stepBy, given, after, play, stateOf, recordOf}
 
 -- what a step keeps: the plan, the count of commands given, and that an ending says the count
 pub record Counts (s : Collection) (x : Stepped) : Type 0 where
   pub plan : x .state .plan ≡ s .plan
   pub count : x .state .count ≡ s .count + length (given (x .next))
-  pub ending : (e : Ending) → x .next ≡ Ends e → e .count ≡ s .count
+  pub ending : (e : Finish) → x .next ≡ Ends e → e .count ≡ s .count
 
-clashes : {A : Type 0} {w : Words} {e : Ending} → Send w ≡ Ends e → A
+clashes : {A : Type 0} {w : Words} {e : Finish} → Send w ≡ Ends e → A
 clashes q = let z : _≡_ {A = ℕ} 0 1 = cc in absurd (omega arith)
 
-act-counts : (s : Collection) (h : Seen) (m : Move) → Counts s (actOf s h m .stepped)
-unfolding actOf
-act-counts s h (Fail answer next) = record { plan = refl; count = omega arith; ending = λ e q. cc }
+act-counts : (s : Collection) (h : Seen) (m : Move) → Counts s (makes s h m)
+unfolding makes
+act-counts s h (End x next) = record { plan = refl; count = omega arith; ending = λ e q. cc }
 act-counts s h (Open next) = record { plan = refl; count = refl; ending = λ e q. clashes q }
 act-counts s h (More at) = record { plan = refl; count = refl; ending = λ e q. clashes q }
 act-counts s h Skip = record { plan = refl; count = refl; ending = λ e q. clashes q }
 act-counts s h Acknowledge = record { plan = refl; count = refl; ending = λ e q. clashes q }
-act-counts s h (Done newer) = record { plan = refl; count = omega arith; ending = λ e q. cc }
 
 pub step-counts : (s : Collection) (ok : Bool) (d : List ℕ) (n : ℕ) → Counts s (stepOf s ok d n)
 step-counts s ok d n =
@@ -73,7 +72,7 @@ count-is-record p ks =
     omega (arith, play-counts (setupOf p .state) ks, setup-counts p)
 
 -- The answer that ends a run gives that number.
-pub ending-says-count : (p : Plan) (ks : List Completion) (k : Completion) (e : Ending) → stepBy (stateOf p ks) k .next ≡ Ends e
+pub ending-says-count : (p : Plan) (ks : List Completion) (k : Completion) (e : Finish) → stepBy (stateOf p ks) k .next ≡ Ends e
     → e .count ≡ length (recordOf p ks)
 ending-says-count p ks k e q =
     step-counts (stateOf p ks) (k .ok) (k .bytes) (k .copy) .ending e q ∙ count-is-record p ks

@@ -1,5 +1,5 @@
 pub mod Run
 pub mod Counted
-pub mod Ended
+pub mod Bound
 pub mod Retained
 pub mod Listing

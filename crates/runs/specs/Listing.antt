@@ -9,10 +9,11 @@ use Rattle.choices.specs.Tests.{holds}
 use Rattle.pages.specs.Pages.{controllerPage}
 use Rattle.words.specs.declared.Words.{Words}
 use Rattle.words.specs.Words.{taken, builtOf}
-use Rattle.course.specs.declared.Plan.{Plan}
-use Rattle.course.specs.declared.Phase.{Phase}
-use Rattle.course.specs.declared.Phase.the-variants.{First, Chunk, Close, Ack}
-use Rattle.course.specs.Course.{chunkBlocks, builtBy, awaitedBy, phaseAt, openingOf, followingOf}
+use Rattle.plans.specs.declared.Plan.{Plan}
+use Rattle.plans.specs.declared.Phase.{Phase}
+use Rattle.plans.specs.declared.Phase.the-variants.{First, Chunk, Close, Ack}
+use Rattle.plans.specs.Plans.{chunkBlocks, wordsBy, phaseAt}
+use Rattle.turns.specs.Turns.{openingOf, followingOf}
 
 abbrev plan : Plan
 plan = record {
@@ -29,7 +30,7 @@ abbrev last : List ℕ
 last = 7 ∷ 9 ∷ 9 ∷ 0 ∷ []
 
 -- the header's opening, and what follows each good chunk
-pub chunks : (openingOf plan last ≡ Chunk 1) × (followingOf plan last 1 ≡ Chunk 4) × (followingOf plan last 4 ≡ Chunk 7) × (followingOf plan last 7 ≡ Close)
+pub chunks : (openingOf plan last ≡ Chunk 1) × (followingOf plan last 1 ≡ Chunk 4) × (followingOf plan last 4 ≡ Chunk 7) × (followingOf plan last 7 ≡ Close false)
 unfolding phaseAt
 chunks = (refl, refl, refl, refl)
 
@@ -38,9 +39,9 @@ words cdw10 cdw11 cdw12 cdw13 cdw14 = record { cdw10 = cdw10; cdw11 = cdw11; cdw
 
 abbrev of : List Phase → List Words
 of [] = []
-of (f ∷ fs) = awaitedBy f plan last ∷ of fs
+of (f ∷ fs) = wordsBy f plan last ∷ of fs
 
-pub listing : of (First ∷ Chunk 1 ∷ Chunk 4 ∷ Chunk 7 ∷ Close ∷ Ack ∷ [])
+pub listing : of (First ∷ Chunk 1 ∷ Chunk 4 ∷ Chunk 7 ∷ Close false ∷ Ack ∷ [])
     ≡ words 0x007F8008 0x00000000 0x00000000 0x00000000 0x00000000
     ∷ words 0x017F8008 0x00000000 0x00000200 0x00000000 0x00000000
     ∷ words 0x017F8008 0x00000000 0x00000800 0x00000000 0x00000000
@@ -48,5 +49,5 @@ pub listing : of (First ∷ Chunk 1 ∷ Chunk 4 ∷ Chunk 7 ∷ Close ∷ Ack �
     ∷ words 0x007F8008 0x00000000 0x00000000 0x00000000 0x00000000
     ∷ words 0x007F0008 0x00000000 0x00000000 0x00000000 0x00000000
     ∷ []
-unfolding awaitedBy builtBy builtOf taken holds chunkBlocks
+unfolding wordsBy builtOf taken holds chunkBlocks
 listing = refl

@@ -4,7 +4,7 @@
 use Prim.Native.Nat.{ℕ, _+_}
 use mathlib.Core.Path.{_≡_, refl, sym, ap, subst, _∙_}
 use mathlib.Core.List.{List, [], _∷_, _++_}
-use mathlib.Core.Bool.{Bool, true, false}
+use mathlib.Core.Bool.{Bool, true, false, not, _||_}
 use native.Mathlib.Omega.{arith}
 use lib.ListN.{length}
 use lib.Dec.{leb}
@@ -16,23 +16,26 @@ use Rattle.pages.specs.Pages.{hostPage, controllerPage, most4}
 use Rattle.words.specs.declared.Command.{Command}
 use Rattle.words.specs.declared.Words.{Words}
 use Rattle.words.specs.Words.{readOf}
-use Rattle.course.specs.declared.Plan.{Plan}
-use Rattle.course.specs.declared.Phase.{Phase}
-use Rattle.course.specs.declared.Phase.the-variants.{First, Chunk, Close, CloseRefused, Ack, Ended}
-use Rattle.course.specs.declared.Seen.{Seen}
-use Rattle.course.specs.declared.Move.{Move}
-use Rattle.course.specs.Course.{setupAnswer, areaLast, phaseAt, endedBy}
-use Rattle.course.specs.Awaited.{commandBy}
+use Rattle.plans.specs.declared.Plan.{Plan}
+use Rattle.plans.specs.declared.Phase.{Phase}
+use Rattle.plans.specs.declared.Phase.the-variants.{First, Chunk, Close, Ack, Ended}
+use Rattle.completions.specs.declared.Seen.{Seen}
+use Rattle.judgement.specs.declared.Move.{Move}
+use Rattle.plans.specs.Awaited.{commandBy, asks-rae, asks-create}
+use Rattle.plans.specs.Phases.{firstBy, ackBy, endedBy, silentBy, closing-is}
+use Rattle.plans.specs.Plans.{setupAnswer, areaLast, phaseAt}
+use Rattle.collection.specs.Collection.{awaitedOf, refusalOf, lookOf, moveOf, beginning}
+use Rattle.collection.specs.Copied.{not-sent}
+use Rattle.collection.specs.Laws.{move-cases}
+use Rattle.collection.specs.Steps.{makes, awaited-taken, setup-taken, refused-step, taken-step}
+use Rattle.choices.specs.Tests.{same-or-not}
 use Rattle.collection.specs.declared.Collection.{Collection}
 use Rattle.collection.specs.declared.Next.{Next}
-use Rattle.collection.specs.declared.Next.the-variants.{Send, Ended as Ends, Refused}
+use Rattle.collection.specs.declared.Next.the-variants.{Send, End as Ends, Refuse}
 use Rattle.collection.specs.declared.Stepped.{Stepped}
-use Rattle.collection.specs.Collection.{awaitedOf, refusalOf, lookOf, moveOf, actOf, beginning}
-use Rattle.collection.specs.Laws.{same-or-not, closingBy, move-cases}
-use Rattle.collection.specs.Steps.{awaited-taken, setup-taken, refused-step, taken-step}
 use Rattle.runs.specs.Run.{Completion, stepBy, given, play, recordOf}
 use Rattle.runs.specs.Counted.{step-counts}
-use Rattle.runs.specs.Ended.{Reached, reached-ok, step-house, begins}
+use Rattle.runs.specs.Bound.{Reached, reached-ok, step-house, begins}
 
 -- all commands of a list, and all but its last one
 abbrev pub All : (Words → Type 0) → List Words → Type 0
@@ -58,54 +61,16 @@ NoCreate w = readOf true w .create ≡ false
 
 -- a phase that a step can lead to with a command
 abbrev laterBy : Phase → Bool
-laterBy First = false
-laterBy (Chunk at) = true
-laterBy Close = true
-laterBy CloseRefused = true
-laterBy Ack = true
-laterBy Ended = false
+laterBy f = not (firstBy f || endedBy f)
 
--- the acknowledgement is awaited
-abbrev ackBy : Phase → Bool
-ackBy First = false
-ackBy (Chunk at) = false
-ackBy Close = false
-ackBy CloseRefused = false
-ackBy Ack = true
-ackBy Ended = false
+no-left : (a b : Bool) → a || b ≡ false → a ≡ false
+no-left true b e = e
+no-left false b e = refl
 
--- the acknowledgement or nothing is awaited: no step sends a command
-abbrev silentBy : Phase → Bool
-silentBy First = false
-silentBy (Chunk at) = false
-silentBy Close = false
-silentBy CloseRefused = false
-silentBy Ack = true
-silentBy Ended = true
-
-closing-loud : (f : Phase) → closingBy f ≡ true → silentBy f ≡ false
-closing-loud First e = refl
-closing-loud (Chunk at) e = refl
-closing-loud Close e = refl
-closing-loud CloseRefused e = refl
-closing-loud Ack e = clash {t = true} refl (sym e)
-closing-loud Ended e = clash {t = true} refl (sym e)
-
-loud-no-ack : (f : Phase) → silentBy f ≡ false → ackBy f ≡ false
-loud-no-ack First e = refl
-loud-no-ack (Chunk at) e = refl
-loud-no-ack Close e = refl
-loud-no-ack CloseRefused e = refl
-loud-no-ack Ack e = e
-loud-no-ack Ended e = refl
-
-later-going : (f : Phase) → laterBy f ≡ true → endedBy f ≡ false
-later-going First e = refl
-later-going (Chunk at) e = refl
-later-going Close e = refl
-later-going CloseRefused e = refl
-later-going Ack e = refl
-later-going Ended e = sym e
+neither : (a b : Bool) → not (a || b) ≡ true → (a ≡ false) × (b ≡ false)
+neither true b e = clash {t = true} refl (sym e)
+neither false true e = clash {t = true} refl (sym e)
+neither false false e = (refl, refl)
 
 at-later : (at b : ℕ) → laterBy (phaseAt at b) ≡ true
 unfolding phaseAt
@@ -123,36 +88,36 @@ record Gives (s : Collection) (x : Stepped) (w : Words) : Type 0 where
   later : laterBy (x .state .phase) ≡ true
   ack : ackBy (x .state .phase) ≡ true → s .plan .page ≡ controllerPage
 
-sends : {v w : Words} → Send v ≡ Send w → w ≡ v
-sends q = cc
+same-words : {v w : Words} → Send v ≡ Send w → w ≡ v
+same-words q = cc
 
 abbrev Gave : Collection → Seen → Words → Move → Type 0
-Gave s h w m = actOf s h m .stepped .next ≡ Send w → Gives s (actOf s h m .stepped) w
+Gave s h w m = makes s h m .next ≡ Send w → Gives s (makes s h m) w
 
 gave : (s : Collection) (ok : Bool) (h : Seen) (w : Words) → Gave s h w (moveOf s ok h)
-unfolding actOf awaitedOf
+unfolding makes awaitedOf
 gave s ok h w = move-cases (Gave s h w) s ok h (record {
-  fail = λ n l q. let z : _≡_ {A = ℕ} 0 1 = cc in absurd (omega arith);
-  large = λ f l q. let z : _≡_ {A = ℕ} 0 1 = cc in absurd (omega arith);
+  fail = λ n l q. not-sent (sym q);
+  large = λ f l q. not-sent (sym q);
   first = λ f r q. record {
-    awaits = sends q;
+    awaits = same-words q;
     later = at-later 1 (areaLast (s .plan) (h .last));
     ack = λ a. clash a (at-no-ack 1 (areaLast (s .plan) (h .last)));
   };
   again = λ f l r q. record {
-    awaits = sends q;
+    awaits = same-words q;
     later = at-later 1 (areaLast (s .plan) (h .last));
     ack = λ a. clash a (at-no-ack 1 (areaLast (s .plan) (h .last)));
   };
   more = λ at f y q. record {
-    awaits = sends q;
-    later = at-later (at + s .plan .chunk) (areaLast (s .plan) (s .last));
-    ack = λ a. clash a (at-no-ack (at + s .plan .chunk) (areaLast (s .plan) (s .last)));
+    awaits = same-words q;
+    later = at-later (at + s .plan .chunk) (areaLast (s .plan) (s .attempt .last));
+    ack = λ a. clash a (at-no-ack (at + s .plan .chunk) (areaLast (s .plan) (s .attempt .last)));
   };
-  skip = λ at f q. record { awaits = sends q; later = refl; ack = λ a. clash {t = true} refl (sym a) };
-  acknowledge = λ f p q. record { awaits = sends q; later = refl; ack = λ a. p };
-  stand = λ f q. let z : _≡_ {A = ℕ} 0 1 = cc in absurd (omega arith);
-  done = λ f q. let z : _≡_ {A = ℕ} 0 1 = cc in absurd (omega arith);
+  skip = λ at f q. record { awaits = same-words q; later = refl; ack = λ a. clash {t = true} refl (sym a) };
+  acknowledge = λ f p q. record { awaits = same-words q; later = refl; ack = λ a. p };
+  stand = λ f q. not-sent (sym q);
+  done = λ f q. not-sent (sym q);
 })
 
 step-gives : (s : Collection) (k : Completion) (w : Words) → stepBy s k .next ≡ Send w → Gives s (stepBy s k) w
@@ -169,43 +134,31 @@ step-gives s k w q =
 -- ---- what such a command says
 
 rae-by : (f : Phase) (p : Plan) (last : List ℕ) → ackBy f ≡ false → commandBy f p last .rae ≡ true
-unfolding commandBy
-rae-by First p last e = refl
-rae-by (Chunk at) p last e = refl
-rae-by Close p last e = refl
-rae-by CloseRefused p last e = refl
-rae-by Ack p last e = clash {t = true} refl e
-rae-by Ended p last e = refl
+rae-by f p last e = asks-rae f p last ∙ rw e
 
 create-by : (f : Phase) (p : Plan) (last : List ℕ) → laterBy f ≡ true → commandBy f p last .create ≡ false
-unfolding commandBy
-create-by First p last e = clash {t = true} refl (sym e)
-create-by (Chunk at) p last e = refl
-create-by Close p last e = refl
-create-by CloseRefused p last e = refl
-create-by Ack p last e = refl
-create-by Ended p last e = refl
+create-by f p last e = asks-create f p last ∙ rw (neither (firstBy f) (endedBy f) e .0)
 
-awaited-reads : (s : Collection) → Reached most4 s → endedBy (s .phase) ≡ false → readOf true (awaitedOf s) ≡ commandBy (s .phase) (s .plan) (s .last)
+awaited-reads : (s : Collection) → Reached most4 s → endedBy (s .phase) ≡ false → readOf true (awaitedOf s) ≡ commandBy (s .phase) (s .plan) (s .attempt .last)
 unfolding awaitedOf
 awaited-reads s r g = awaited-taken s (reached-ok s r) g .reads
 
 given-reads : (s : Collection) (k : Completion) (w : Words) → Reached most4 s → stepBy s k .next ≡ Send w
-    → readOf true w ≡ commandBy (stepBy s k .state .phase) (stepBy s k .state .plan) (stepBy s k .state .last)
+    → readOf true w ≡ commandBy (stepBy s k .state .phase) (stepBy s k .state .plan) (stepBy s k .state .attempt .last)
 given-reads s k w r q =
     let g = step-gives s k w q in
-    rw (g .awaits) (awaited-reads (stepBy s k .state) (step-house s k r) (later-going (stepBy s k .state .phase) (g .later)))
+    rw (g .awaits) (awaited-reads (stepBy s k .state) (step-house s k r) (neither (firstBy (stepBy s k .state .phase)) (endedBy (stepBy s k .state .phase)) (g .later) .1))
 
 given-rae : (s : Collection) (k : Completion) (w : Words) → Reached most4 s → stepBy s k .next ≡ Send w
     → ackBy (stepBy s k .state .phase) ≡ false → Retains w
 given-rae s k w r q a =
     ap (λ (c : Command). c .rae) (given-reads s k w r q)
-    ∙ rae-by (stepBy s k .state .phase) (stepBy s k .state .plan) (stepBy s k .state .last) a
+    ∙ rae-by (stepBy s k .state .phase) (stepBy s k .state .plan) (stepBy s k .state .attempt .last) a
 
 given-create : (s : Collection) (k : Completion) (w : Words) → Reached most4 s → stepBy s k .next ≡ Send w → NoCreate w
 given-create s k w r q =
     ap (λ (c : Command). c .create) (given-reads s k w r q)
-    ∙ create-by (stepBy s k .state .phase) (stepBy s k .state .plan) (stepBy s k .state .last) (step-gives s k w q .later)
+    ∙ create-by (stepBy s k .state .phase) (stepBy s k .state .plan) (stepBy s k .state .attempt .last) (step-gives s k w q .later)
 
 -- ---- after the acknowledgement no command is sent
 
@@ -213,13 +166,13 @@ record Silent (x : Stepped) : Type 0 where
   gives : given (x .next) ≡ []
   stays : silentBy (x .state .phase) ≡ true
 
-silent : (s : Collection) (ok : Bool) (h : Seen) → silentBy (s .phase) ≡ true → Silent (actOf s h (moveOf s ok h) .stepped)
-unfolding actOf
-silent s ok h e = move-cases (λ (m : Move). Silent (actOf s h m .stepped)) s ok h (record {
+silent : (s : Collection) (ok : Bool) (h : Seen) → silentBy (s .phase) ≡ true → Silent (makes s h (moveOf s ok h))
+unfolding makes
+silent s ok h e = move-cases (λ (m : Move). Silent (makes s h m)) s ok h (record {
   fail = λ n l. record { gives = refl; stays = refl };
   large = λ f l. record { gives = refl; stays = refl };
   first = λ f r. clash {t = true} refl (sym (rw f at e));
-  again = λ f l r. clash e (closing-loud (s .phase) f);
+  again = λ f l r. let q = closing-is (s .phase) f in clash e (rw (q .no-ack, q .going));
   more = λ at f y. clash {t = true} refl (sym (rw f at e));
   skip = λ at f. clash {t = true} refl (sym (rw f at e));
   acknowledge = λ f p. clash {t = true} refl (sym (rw f at e));
@@ -246,9 +199,9 @@ play-silent s (k ∷ ks) e =
 chain-on : (s : Collection) (k : Completion) (ks : List Completion) (w : Words) → Reached most4 s → Retains w
     → ((v : Words) → (silentBy (stepBy s k .state .phase) ≡ false → Retains v) → AllButLast Retains (v ∷ play (stepBy s k .state) ks))
     → (n : Next) → stepBy s k .next ≡ n → AllButLast Retains (w ∷ given n ++ play (stepBy s k .state) ks)
-chain-on s k ks w r h rest (Send v) q = (h, rest v (λ l. given-rae s k v r q (loud-no-ack (stepBy s k .state .phase) l)))
+chain-on s k ks w r h rest (Send v) q = (h, rest v (λ l. given-rae s k v r q (no-left (ackBy (stepBy s k .state .phase)) (endedBy (stepBy s k .state .phase)) l)))
 chain-on s k ks w r h rest (Ends e) q = rest w (λ l. h)
-chain-on s k ks w r h rest (Refused n) q = rest w (λ l. h)
+chain-on s k ks w r h rest (Refuse n) q = rest w (λ l. h)
 
 chain-step : (s : Collection) (k : Completion) (ks : List Completion) (w : Words) → Reached most4 s → (silentBy (s .phase) ≡ false → Retains w)
     → ((v : Words) → (silentBy (stepBy s k .state .phase) ≡ false → Retains v) → AllButLast Retains (v ∷ play (stepBy s k .state) ks))
@@ -271,7 +224,7 @@ chain s (k ∷ ks) w r a = chain-step s k ks w r a (λ v h. chain (stepBy s k .s
 given-all : (P : Words → Type 0) (n : Next) (ws : List Words) → ((w : Words) → n ≡ Send w → P w) → All P ws → All P (given n ++ ws)
 given-all P (Send w) ws f rest = (f w refl, rest)
 given-all P (Ends e) ws f rest = rest
-given-all P (Refused n) ws f rest = rest
+given-all P (Refuse n) ws f rest = rest
 
 play-all : (P : Words → Type 0) (page : ℕ)
     → ((s : Collection) (k : Completion) (w : Words) → Reached most4 s → s .plan .page ≡ page → stepBy s k .next ≡ Send w → P w)

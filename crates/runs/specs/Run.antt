@@ -8,13 +8,13 @@ use Rattle.choices.specs.Choice.{pick, larger}
 use Rattle.answers.specs.Answers.{doesNotFit}
 use Rattle.pages.specs.Pages.{controllerPage}
 use Rattle.words.specs.declared.Words.{Words}
-use Rattle.course.specs.declared.Plan.{Plan}
-use Rattle.course.specs.Course.{areaLast}
+use Rattle.plans.specs.declared.Plan.{Plan}
+use Rattle.plans.specs.Plans.{areaLast}
+use Rattle.collection.specs.Collection.{setupOf, stepOf, answerOf}
 use Rattle.collection.specs.declared.Collection.{Collection}
 use Rattle.collection.specs.declared.Next.{Next}
-use Rattle.collection.specs.declared.Next.the-variants.{Send, Ended as Ends, Refused}
+use Rattle.collection.specs.declared.Next.the-variants.{Send, End as Ends, Refuse}
 use Rattle.collection.specs.declared.Stepped.{Stepped}
-use Rattle.collection.specs.Collection.{setupOf, stepOf, numberOf}
 
 pub record Completion : Type 0 where
   pub ok : Bool
@@ -29,7 +29,7 @@ stepBy s k = stepOf s (k .ok) (k .bytes) (k .copy)
 abbrev pub given : Next → List Words
 given (Send w) = w ∷ []
 given (Ends e) = []
-given (Refused n) = []
+given (Refuse n) = []
 
 -- the state after completions
 unfoldable pub after : Collection → List Completion → Collection
@@ -58,8 +58,8 @@ chunksOf p last = chunksFrom (p .chunk) 1 (areaLast p last)
 
 -- the most chunks that any header of the run calls for; a state keeps the last blocks of its attempt's header
 unfoldable pub mostChunks : Collection → List Completion → ℕ
-mostChunks s [] = chunksOf (s .plan) (s .last)
-mostChunks s (k ∷ ks) = larger (chunksOf (s .plan) (s .last)) (mostChunks (stepBy s k .state) ks)
+mostChunks s [] = chunksOf (s .plan) (s .attempt .last)
+mostChunks s (k ∷ ks) = larger (chunksOf (s .plan) (s .attempt .last)) (mostChunks (stepBy s k .state) ks)
 
 -- the acknowledgement: one command more on 08h
 abbrev pub acknowledging : Plan → ℕ
@@ -68,4 +68,4 @@ acknowledging p = pick (eqb (p .page) controllerPage) 1 0
 -- how many of the completions fit the awaited command, that is, are not answered 15
 unfoldable pub fitting : Collection → List Completion → ℕ
 fitting s [] = 0
-fitting s (k ∷ ks) = pick (eqb (numberOf (stepBy s k .next)) doesNotFit) 0 1 + fitting (stepBy s k .state) ks
+fitting s (k ∷ ks) = pick (eqb (answerOf (stepBy s k .next)) doesNotFit) 0 1 + fitting (stepBy s k .state) ks

@@ -14,20 +14,25 @@ use Rattle.choices.specs.Tests.{by-test, clash}
 use Rattle.copies.specs.Parts.{zeros, put}
 use Rattle.answers.specs.Answers.{success}
 use Rattle.pages.specs.Pages.{block}
-use Rattle.course.specs.declared.Plan.{Plan}
-use Rattle.course.specs.declared.Phase.{Phase}
-use Rattle.course.specs.declared.Phase.the-variants.{Chunk, CloseRefused, Ack}
-use Rattle.course.specs.Course.{areaLast, areaBytes, chunkBlocks, followingOf, lookBy}
-use Rattle.course.specs.Laws.{chunk-inside, chunk-full, chunk-short}
+use Rattle.plans.specs.declared.Plan.{Plan}
+use Rattle.plans.specs.declared.Phase.{Phase}
+use Rattle.plans.specs.declared.Phase.the-variants.{Chunk, Close, Ack}
+use Rattle.plans.specs.Phases.{judgedBy}
+use Rattle.plans.specs.Limits.{chunk-inside, chunk-full, chunk-short}
+use Rattle.plans.specs.Plans.{areaLast, areaBytes, chunkBlocks}
+use Rattle.completions.specs.Completions.{lookBy}
+use Rattle.judgement.specs.Judgement.{newerThan}
+use Rattle.turns.specs.Turns.{followingOf}
+use Rattle.collection.specs.Collection.{awaitedOf, expectedOf, lookOf, refusalOf, sends, ends}
+use Rattle.collection.specs.Steps.{inPhase, endedIn, chunk-good, chunk-refused, ack-done}
+use Rattle.choices.specs.Tests.{same-or-not}
+use Rattle.judgement.specs.declared.Ending.the-variants.{Success}
 use Rattle.collection.specs.declared.Collection.{Collection}
 use Rattle.collection.specs.declared.Next.the-variants.{Send}
 use Rattle.collection.specs.declared.Stepped.{Stepped}
-use Rattle.collection.specs.Collection.{awaitedOf, expectedOf, lookOf, refusalOf, newerThan, inPhase}
-use Rattle.collection.specs.Laws.{same-or-not}
-use Rattle.collection.specs.Steps.{sends, ends, chunk-good, chunk-refused, ack-done}
 use Rattle.collection.specs.Copied.{chunk-copy, ending-copy, sending-copy}
 use Rattle.runs.specs.Run.{given}
-use Rattle.sources.specs.Source.{Source, Done, Stand, headerBy, fine, dataOf, stepped, hears}
+use Rattle.sources.specs.Source.{Source, Done, Stand, fine, dataOf, stepped, hears}
 use Rattle.sources.specs.Keeps.{Keeps, Header}
 use Rattle.sources.specs.Promise.{succeeded}
 use Rattle.sources.specs.Inv.{Common, Opened, Mid, Had, Inv}
@@ -66,7 +71,7 @@ module _ (D : Source) (p : Plan) (K : Keeps D p) (s : Stand D) (o : Done (D .Sta
 
   module _ (at : ℕ) (f : state .phase ≡ Chunk at) (m : Mid D p K s (at - 1) true) (same : o .source ≡ s .source) where
     abbrev last : ℕ
-    last = areaLast p (state .last)
+    last = areaLast p (state .attempt .last)
 
     abbrev n : ℕ
     n = chunkBlocks (p .chunk) at last
@@ -80,9 +85,7 @@ module _ (D : Source) (p : Plan) (K : Keeps D p) (s : Stand D) (o : Done (D .Sta
       source = s .source;
       sent = stepped D s o x y .sent;
       checked = s .checked;
-      since = s .since;
-      captures = s .captures;
-      lentRefusals = stepped D s o x y .lentRefusals;
+      counts = record { since = s .counts .since; captures = s .counts .captures; lentRefusals = stepped D s o x y .counts .lentRefusals };
       most = stepped D s o x y .most;
     }
 
@@ -97,7 +100,7 @@ module _ (D : Source) (p : Plan) (K : Keeps D p) (s : Stand D) (o : Done (D .Sta
     room = c .size ∙ ap (λ (q : Plan). q .room) (sym (c .plan))
 
     -- what the attempt's header says stays said
-    still-opened : (x : Stepped) (y : List ℕ) → x .next ≡ Send (awaitedOf (x .state)) → x .state .generation ≡ state .generation → x .state .last ≡ state .last
+    still-opened : (x : Stepped) (y : List ℕ) → x .next ≡ Send (awaitedOf (x .state)) → x .state .attempt .generation ≡ state .attempt .generation → x .state .attempt .last ≡ state .attempt .last
         → Opened D p K (plain x y)
     still-opened x y e g l =
         let op = m .opened in
@@ -108,12 +111,12 @@ module _ (D : Source) (p : Plan) (K : Keeps D p) (s : Stand D) (o : Done (D .Sta
           good = op .good;
           here = op .here;
           live = op .live;
-          gens = op .gens ∙ ap (λ (i : ℕ). (i + s .since) % 256) (sym g);
+          gens = op .gens ∙ ap (λ (i : ℕ). (i + s .counts .since) % 256) (sym g);
           begun = omega (arith, op .begun, length-append (s .sent) (given (x .next)));
         }
 
     served : o .answer ≡ success → length (o .bytes) ≡ block * n
-        → (K .shows (s .source) .last ≡ state .last → o .bytes ≡ take (block * n) (drop (block * (at - 1)) (K .area (s .source))))
+        → (K .shows (s .source) .last ≡ state .attempt .last → o .bytes ≡ take (block * n) (drop (block * (at - 1)) (K .area (s .source))))
         → Inv D p K (hears D s o)
     unfolding awaitedOf
     served a l right =
@@ -121,7 +124,7 @@ module _ (D : Source) (p : Plan) (K : Keeps D p) (s : Stand D) (o : Done (D .Sta
         let t : refusalOf state true (length (o .bytes)) (length (s .copy)) ≡ success =
         takes state true (o .bytes) (length (s .copy)) (c .house) (rw f) room (l ∙ sym due) in
         let i = chunk-inside at last (rw (f, c .plan) at (c .house .inside)) in
-        let x : Stepped = sends (inPhase state (followingOf (state .plan) (state .last) at)) in
+        let x : Stepped = sends (inPhase state (followingOf (state .plan) (state .attempt .last) at)) in
         let y : List ℕ = put (s .copy) (block * (at - 1)) (o .bytes) in
         let cc = chunk-copy state at (o .bytes) (s .copy) f t in
         let ex : step D p K s o ≡ x = rw z (chunk-good state at (o .bytes) (length (s .copy)) f t) in
@@ -140,22 +143,22 @@ module _ (D : Source) (p : Plan) (K : Keeps D p) (s : Stand D) (o : Done (D .Sta
               };
         } in
         finish D p K s o x y ex ey c (rw f (c .tries))
-        (at-phase D p K (stepped D s o x y) (at + state .plan .chunk) (at - 1 + n) (areaLast (state .plan) (state .last))
-        (ap (λ (q : Plan). areaLast q (state .last)) (c .plan))
+        (at-phase D p K (stepped D s o x y) (at + state .plan .chunk) (at - 1 + n) (areaLast (state .plan) (state .attempt .last))
+        (ap (λ (q : Plan). areaLast q (state .attempt .last)) (c .plan))
         (λ h. rw (c .plan) (full-done (p .chunk) at last (i .0) (i .1) (rw (c .plan) at h)))
         (λ h. rw (c .plan) (short-done (p .chunk) at last (i .0) (i .1) (rw (c .plan) at h)))
         (subst (λ (v : Stand D). Mid D p K v (at - 1 + n) true) (plain-is x y) mid))
 
     -- refused, and then the page is no longer the one that the attempt's header showed
-    refused : (o .answer ≡ success → ⊥) → (K .shows (s .source) .last ≡ state .last → o .answer ≡ success) → Inv D p K (hears D s o)
+    refused : (o .answer ≡ success → ⊥) → (K .shows (s .source) .last ≡ state .attempt .last → o .answer ≡ success) → Inv D p K (hears D s o)
     unfolding awaitedOf
     refused a right =
         let z : fine o ≡ false = ne-eqb (o .answer) success a in
         let t : refusalOf state false 0 (length (s .copy)) ≡ success = takes state false [] (length (s .copy)) (c .house) (rw f) room refl in
-        let x : Stepped = sends (inPhase state CloseRefused) in
+        let x : Stepped = sends (inPhase state (Close true)) in
         let ex : step D p K s o ≡ x = rw z (chunk-refused state at [] (length (s .copy)) f t) in
         let ey : copied D p K s o ≡ s .copy =
-        sending-copy state (fine o) (dataOf o) (s .copy) (awaitedOf (inPhase state CloseRefused)) (ap (λ (v : Stepped). v .next) ex) (λ b q k. clash k z) in
+        sending-copy state (fine o) (dataOf o) (s .copy) (awaitedOf (inPhase state (Close true))) (ap (λ (v : Stepped). v .next) ex) (λ b q k. clash k z) in
         finish D p K s o x (s .copy) ex ey c (rw f (c .tries))
         (subst (λ (v : Stand D). Mid D p K v 0 false) (plain-is x (s .copy))
         (record {
@@ -164,7 +167,7 @@ module _ (D : Source) (p : Plan) (K : Keeps D p) (s : Stand D) (o : Done (D .Sta
         }))
 
     pub chunk-inv : (o .answer ≡ success → length (o .bytes) ≡ block * n)
-        → (K .shows (s .source) .last ≡ state .last → (o .answer ≡ success) × (o .bytes ≡ take (block * n) (drop (block * (at - 1)) (K .area (s .source)))))
+        → (K .shows (s .source) .last ≡ state .attempt .last → (o .answer ≡ success) × (o .bytes ≡ take (block * n) (drop (block * (at - 1)) (K .area (s .source)))))
         → Inv D p K (hears D s o)
     chunk-inv long right =
         same-or-not (o .answer) success
@@ -173,21 +176,21 @@ module _ (D : Source) (p : Plan) (K : Keeps D p) (s : Stand D) (o : Done (D .Sta
 
   -- ---- the acknowledgement
 
-  pub ack-inv : state .phase ≡ Ack → Had D p K s → Header p o (K .shows (s .source)) → s .since ≤ 255 → Inv D p K (hears D s o)
-  unfolding lookOf lookBy expectedOf newerThan
+  pub ack-inv : state .phase ≡ Ack → Had D p K s → Header p o (K .shows (s .source)) → s .counts .since ≤ 255 → Inv D p K (hears D s o)
+  unfolding lookOf lookBy expectedOf
   ack-inv f h hdr few =
       let op = h .opened in
       let z : fine o ≡ true = eq-eqb (o .answer) success (hdr .answer) in
       let t : refusalOf state true (length (o .bytes)) (length (s .copy)) ≡ success =
       takes state true (o .bytes) (length (s .copy)) (c .house) (rw f) (c .size ∙ ap (λ (q : Plan). q .room) (sym (c .plan))) (rw f (hdr .long)) in
-      let newer : Bool = newerThan state (lookOf state (o .bytes)) in
-      let ex : step D p K s o ≡ ends state false success newer = rw z (ack-done state (o .bytes) (length (s .copy)) f t) in
-      let left = ending-copy state (fine o) (dataOf o) (s .copy) (record { answer = success; newer = newer; count = state .count }) (ap (λ (v : Stepped). v .next) ex) in
-      let l : areaBytes p (state .last) ≡ length (K .area (s .checked)) = ap (areaBytes p) (op .last) ∙ sym (K .long (s .checked) (op .good)) in
+      let newer : Bool = newerThan (state .attempt) (lookOf state (o .bytes)) in
+      let ex : step D p K s o ≡ ends (endedIn state false) (Success newer) = rw z (ack-done state (o .bytes) (length (s .copy)) f t) in
+      let left = ending-copy state (fine o) (dataOf o) (s .copy) (record { ending = Success newer; count = state .count }) (ap (λ (v : Stepped). v .next) ex) in
+      let l : areaBytes p (state .attempt .last) ≡ length (K .area (s .checked)) = ap (areaBytes p) (op .last) ∙ sym (K .long (s .checked) (op .good)) in
       let ey : copied D p K s o ≡ K .area (s .checked) ++ zeros (p .room - length (K .area (s .checked))) =
       left .stood refl ∙ rw (c .plan, c .size, h .filled, l) in
-      let low : state .generation < 256 = rw (op .generation) (K .byte (s .checked) (op .good)) in
+      let low : state .attempt .generation < 256 = rw (op .generation) (K .byte (s .checked) (op .good)) in
       let seen : lookOf state (o .bytes) ≡ K .shows (s .source) = rw (f, c .plan) (hdr .seen) in
-      let said : newer ≡ ltb 0 (s .since) = rw seen (newer-is (K .shows (s .source) .generation) (state .generation) (s .since) low few (op .gens)) in
-      ended D p K s o c false newer success _ ex ey (rw f (c .tries))
-      (succeeded refl (rw f) (rw f (op .live)) (said ∙ ap (λ (g : Phase). ltb 0 (pick (headerBy g) 0 (s .since))) (sym f)))
+      let said : newer ≡ ltb 0 (s .counts .since) = rw seen (newer-is (K .shows (s .source) .generation) (state .attempt .generation) (s .counts .since) low few (op .gens)) in
+      ended D p K s o c false (Success newer) _ ex ey (rw f (c .tries))
+      (succeeded (ap Success (said ∙ ap (λ (g : Phase). ltb 0 (pick (judgedBy g) 0 (s .counts .since))) (sym f))) (rw f) (rw f (op .live)))

@@ -11,17 +11,18 @@ use Rattle.choices.specs.Tests.{by-test}
 use Rattle.copies.specs.Parts.{zeros}
 use Rattle.answers.specs.Answers.{success}
 use Rattle.pages.specs.Pages.{most4}
-use Rattle.course.specs.declared.Plan.{Plan}
-use Rattle.course.specs.declared.Phase.the-variants.{First}
-use Rattle.course.specs.Course.{setupAnswer, awaitedBy, endedBy}
-use Rattle.collection.specs.declared.Ending.{Ending}
-use Rattle.collection.specs.declared.Next.{Next}
-use Rattle.collection.specs.declared.Next.the-variants.{Send, Ended as Ends, Refused}
-use Rattle.collection.specs.declared.Stepped.{Stepped}
+use Rattle.plans.specs.declared.Plan.{Plan}
+use Rattle.plans.specs.declared.Phase.the-variants.{First}
+use Rattle.plans.specs.Phases.{endedBy}
+use Rattle.plans.specs.Plans.{setupAnswer, wordsBy}
 use Rattle.collection.specs.Collection.{awaitedOf, beginning, setupOf}
 use Rattle.collection.specs.Steps.{setup-taken}
+use Rattle.collection.specs.declared.Finish.{Finish}
+use Rattle.collection.specs.declared.Next.{Next}
+use Rattle.collection.specs.declared.Next.the-variants.{Send, End as Ends, Refuse}
+use Rattle.collection.specs.declared.Stepped.{Stepped}
 use Rattle.runs.specs.Run.{given, acknowledging}
-use Rattle.runs.specs.Ended.{Reached, reached-count, begins}
+use Rattle.runs.specs.Bound.{Reached, reached-count, begins}
 use Rattle.sources.specs.Source.{Source, Turn, Stand, forLent, happen, hears, turnBy, run, begun, collected}
 use Rattle.sources.specs.Keeps.{Keeps}
 use Rattle.sources.specs.Promise.{Told, mostCommands, Promise, Finished}
@@ -49,7 +50,7 @@ module _ (D : Source) (p : Plan) (K : Keeps D p) where
       → Inv D p K (hears D (begun D p copy d) (D .command first (awaitedOf (beginning p First 1)) d))
   unfolding begun awaitedOf
   opened copy d first e l g fair =
-      let r = K .first first (beginning p First 1 .last) d g fair in
+      let r = K .first first (beginning p First 1 .attempt .last) d g fair in
       let ph : setupOf p .state .phase ≡ First = rw (setup-taken p e) in
       first-inv D p K (begun D p copy d) (D .command first (awaitedOf (beginning p First 1)) d) (begun-common copy d e l) (rw ph) (r .0) (r .1) ph
       (rw (setup-taken p e)) (rw (setup-taken p e))
@@ -62,28 +63,28 @@ module _ (D : Source) (p : Plan) (K : Keeps D p) where
       (λ g. over-by D p K (s .collection .phase) s (i .now) g)
       (λ g. let z : _≡_ {A = ℕ} 1 0 = ap (λ (m : Next). length (given m)) (sym (said-by D p K (s .collection .phase) s (i .now) g) ∙ e) ∙ ap length none in absurd (omega arith))
 
-  same-ending : {e f : Ending} → Ends e ≡ Ends f → e ≡ f
+  same-ending : {e f : Finish} → Ends e ≡ Ends f → e ≡ f
   same-ending q = cc
 
-  bound : (k most : ℕ) (s : Stand D) → Common D p K s → Reached most (s .collection) → s .captures ≤ k → s .collection .count ≤ mostCommands p k most
+  bound : (k most : ℕ) (s : Stand D) → Common D p K s → Reached most (s .collection) → s .counts .captures ≤ k → s .collection .count ≤ mostCommands p k most
   bound k most s c r h =
-      let a : s .collection .attempt ≤ k + 1 = omega (arith, c .tries) in
-      let n : s .collection .count ≤ 1 + s .collection .attempt * (most + 1) + acknowledging p = rw (c .plan) at (reached-count most (s .collection) r) in
+      let a : s .collection .attempt .number ≤ k + 1 = omega (arith, c .tries) in
+      let n : s .collection .count ≤ 1 + s .collection .attempt .number * (most + 1) + acknowledging p = rw (c .plan) at (reached-count most (s .collection) r) in
       omega (arith, n, mul-le-mul-right (most + 1) a)
 
-  pub promises : (k : ℕ) (s : Stand D) → Inv D p K s → s .captures ≤ k → Promise D p K k s
+  pub promises : (k : ℕ) (s : Stand D) → Inv D p K s → s .counts .captures ≤ k → Promise D p K k s
   promises k s i h =
       let c = i .common in
       record {
         counted = c .counted;
         bounded = bound k (s .most) s c (c .reached) h;
         limited = bound k most4 s c (c .house) h;
-        never = λ n e. let o = at-end s i (Refused n) e refl in let z : _≡_ {A = ℕ} 0 1 = differ (sym e ∙ o .said) in absurd (omega arith);
-        told = λ e q. let o = at-end s i (Ends e) q refl in subst (λ (x : Ending). Told D p K x s) (same-ending (sym (o .said) ∙ q)) (o .told);
-        says = λ e q. let o = at-end s i (Ends e) q refl in sym (ap (λ (x : Ending). x .count) (same-ending (sym (o .said) ∙ q))) ∙ o .count;
+        never = λ n e. let o = at-end s i (Refuse n) e refl in let z : _≡_ {A = ℕ} 0 1 = differ (sym e ∙ o .said) in absurd (omega arith);
+        told = λ e q. let o = at-end s i (Ends e) q refl in subst (λ (x : Finish). Told D p K x s) (same-ending (sym (o .said) ∙ q)) (o .told);
+        says = λ e q. let o = at-end s i (Ends e) q refl in sym (ap (λ (x : Finish). x .count) (same-ending (sym (o .said) ∙ q))) ∙ o .count;
       }
     where
-      differ : {n : ℕ} {e : Ending} → Refused n ≡ Ends e → _≡_ {A = ℕ} 0 1
+      differ : {n : ℕ} {e : Finish} → Refuse n ≡ Ends e → _≡_ {A = ℕ} 0 1
       differ q = cc
 
   -- ---- the theorem
@@ -100,11 +101,11 @@ module _ (D : Source) (p : Plan) (K : Keeps D p) where
     final-is e = ap (λ (n : Next). run D ts (turnBy D n (record { events = []; lent = first }) (begun D p copy d))) (ap (λ (x : Stepped). x .next) (setup-taken p e))
 
     -- the first command, too, was refused for no lent data
-    pub first-fair : setupAnswer p ≡ success → final .lentRefusals ≡ 0 → forLent (D .command first (awaitedBy First p (zeros 4)) d .answer) ≡ false
+    pub first-fair : setupAnswer p ≡ success → final .counts .lentRefusals ≡ 0 → forLent (D .command first (wordsBy First p (zeros 4)) d .answer) ≡ false
     unfolding begun awaitedOf
     first-fair e none =
         let grown = run-grows D p K ts start in
-        let none′ : run D ts start .lentRefusals ≡ 0 = subst (λ (s : Stand D). s .lentRefusals ≡ 0) (final-is e) none in
+        let none′ : run D ts start .counts .lentRefusals ≡ 0 = subst (λ (s : Stand D). s .counts .lentRefusals ≡ 0) (final-is e) none in
         no-lent-refusal D p K (begun D p copy d) (D .command first (awaitedOf (beginning p First 1)) d) (omega (arith, grown .1, none′))
 
     -- as many completions as the count can be end it
@@ -117,17 +118,17 @@ module _ (D : Source) (p : Plan) (K : Keeps D p) where
         let one : setupOf p .state .count ≡ 1 = rw (setup-taken p e) in
         absurd (omega (arith, g .0, g .1, c, one))
     ends e k b r few long (Ends x) q = record { ending = x; said = q }
-    ends e k b r few long (Refused n) q = absurd (r .never n q)
+    ends e k b r few long (Refuse n) q = absurd (r .never n q)
 
     -- A collection that setup takes, into a copy of its room, from a good source, with at most k captures after its first command, k being less
     -- than 256 and than the attempts, and none of its commands refused for lent data: the promise, and that it ends, by any bound b of its count.
-    pub demand : setupAnswer p ≡ success → length copy ≡ p .room → K .Good d → (k : ℕ) → k ≤ 255 → k < p .attempts → final .captures ≤ k → final .lentRefusals ≡ 0
+    pub demand : setupAnswer p ≡ success → length copy ≡ p .room → K .Good d → (k : ℕ) → k ≤ 255 → k < p .attempts → final .counts .captures ≤ k → final .counts .lentRefusals ≡ 0
         → Promise D p K k final × ((b : ℕ) → final .collection .count ≤ b → b ≤ 1 + length ts → Finished D final)
     unfolding awaitedOf
     demand e l g k few more h none =
         let q = final-is e in
-        let h′ : run D ts start .captures ≤ k = subst (λ (s : Stand D). s .captures ≤ k) q h in
-        let none′ : run D ts start .lentRefusals ≡ 0 = subst (λ (s : Stand D). s .lentRefusals ≡ 0) q none in
+        let h′ : run D ts start .counts .captures ≤ k = subst (λ (s : Stand D). s .counts .captures ≤ k) q h in
+        let none′ : run D ts start .counts .lentRefusals ≡ 0 = subst (λ (s : Stand D). s .counts .lentRefusals ≡ 0) q none in
         let fair = first-fair e none in
         let i : Inv D p K (run D ts start) = run-inv D p K k few more ts start (opened copy d first e l g fair) h′ none′ in
         subst (λ (s : Stand D). Promise D p K k s × ((b : ℕ) → s .collection .count ≤ b → b ≤ 1 + length ts → Finished D s)) (sym q)

@@ -7,10 +7,10 @@ use mathlib.Core.Bool.{Bool, true, false}
 use native.Mathlib.Nat.{mod-add-mod, add-assoc}
 use native.Mathlib.Omega.{arith}
 use Rattle.choices.specs.Tests.{clash}
-use Rattle.course.specs.declared.Plan.{Plan}
-use Rattle.course.specs.declared.Phase.{Phase}
-use Rattle.course.specs.declared.Phase.the-variants.{First, Chunk, Close, CloseRefused, Ack, Ended}
-use Rattle.course.specs.Course.{endedBy}
+use Rattle.plans.specs.declared.Plan.{Plan}
+use Rattle.plans.specs.declared.Phase.{Phase}
+use Rattle.plans.specs.declared.Phase.the-variants.{First, Chunk, Close, Ack, Ended}
+use Rattle.plans.specs.Phases.{endedBy}
 use Rattle.sources.specs.Source.{Source, Stand, happens, happen}
 use Rattle.sources.specs.Keeps.{Keeps}
 use Rattle.sources.specs.Inv.{Common, Opened, Mid, Had, At, Inv}
@@ -58,8 +58,7 @@ module _ (D : Source) (p : Plan) (K : Keeps D p) (e : D .Event) (s : Stand D) wh
   unfolding happens
   by-phase First g a = a
   by-phase (Chunk at) g a = mid _ true a
-  by-phase Close g a = mid _ true a
-  by-phase CloseRefused g a = mid 0 false a
+  by-phase (Close after) g a = mid _ _ a
   by-phase Ack g a = had a
   by-phase Ended g a = clash {t = true} refl g
 

@@ -13,59 +13,60 @@ use Rattle.choices.specs.Tests.{clash}
 use Rattle.copies.specs.Parts.{zeros}
 use Rattle.answers.specs.Answers.{success}
 use Rattle.pages.specs.Pages.{block, most4}
-use Rattle.course.specs.declared.Plan.{Plan}
-use Rattle.course.specs.declared.Phase.{Phase}
-use Rattle.course.specs.declared.Phase.the-variants.{First, Chunk, Close, CloseRefused, Ack, Ended}
-use Rattle.course.specs.Course.{areaLast, endedBy, expectedBy, phaseAt, lookBy, seenOf}
+use Rattle.plans.specs.declared.Plan.{Plan}
+use Rattle.plans.specs.declared.Phase.{Phase}
+use Rattle.plans.specs.declared.Phase.the-variants.{First, Chunk, Close, Ack, Ended}
+use Rattle.plans.specs.Phases.{judgedBy, endedBy}
+use Rattle.plans.specs.Plans.{areaLast, expectedBy, phaseAt}
+use Rattle.completions.specs.Completions.{lookBy, seenOf}
+use Rattle.collection.specs.Collection.{expectedOf, completionFits, refusalOf, numberIn, ends, stepOf, copyAfter}
+use Rattle.collection.specs.Steps.{endedIn}
+use Rattle.judgement.specs.declared.Ending.{Ending}
+use Rattle.turns.specs.Turns.{good}
 use Rattle.collection.specs.declared.Collection.{Collection}
 use Rattle.collection.specs.declared.Stepped.{Stepped}
-use Rattle.collection.specs.Collection.{expectedOf, completionFits, refusalOf, attemptOf, stepOf, copyAfter}
-use Rattle.collection.specs.Steps.{ends}
 use Rattle.collection.specs.Copied.{copy-length, ending-copy}
 use Rattle.runs.specs.Run.{Completion, given, chunksOf}
 use Rattle.runs.specs.Counted.{step-counts}
-use Rattle.runs.specs.Ended.{Reached, reached-ok, reached-more, step-reached, step-house}
-use Rattle.sources.specs.Source.{Source, Done, Stand, headerBy, fine, dataOf, stepped, hears}
+use Rattle.runs.specs.Bound.{Reached, reached-ok, reached-more, step-reached, step-house}
+use Rattle.sources.specs.Source.{Source, Done, Stand, fine, dataOf, stepped, hears}
 use Rattle.sources.specs.Keeps.{Keeps}
 use Rattle.sources.specs.Promise.{Told}
 use Rattle.sources.specs.Inv.{Common, Mid, At, Inv}
 
--- a sane state that has not ended takes every completion that fits
+-- a valid state that has not ended takes every completion that fits
 pub takes : (c : Collection) (ok : Bool) (d : List ℕ) (n : ℕ) → Reached most4 c → endedBy (c .phase) ≡ false → n ≡ c .plan .room
     → length d ≡ pick ok (expectedOf c) 0 → refusalOf c ok (length d) n ≡ success
 unfolding refusalOf completionFits
 takes c ok d n r g l e = rw (g, reached-ok c r, eq-eqb n (c .plan .room) l, eq-eqb (length d) (pick ok (expectedOf c) 0) e)
 
 -- where a header is awaited, the data is looked at as one
-pub look-header : (f : Phase) (p : Plan) (d : List ℕ) → headerBy f ≡ true → lookBy f p d ≡ seenOf p d
+pub look-header : (f : Phase) (p : Plan) (d : List ℕ) → judgedBy f ≡ true → lookBy f p d ≡ seenOf p d
 unfolding lookBy
 look-header First p d e = refl
 look-header (Chunk at) p d e = clash {t = true} refl (sym e)
-look-header Close p d e = refl
-look-header CloseRefused p d e = refl
+look-header (Close after) p d e = refl
 look-header Ack p d e = clash {t = true} refl (sym e)
 look-header Ended p d e = clash {t = true} refl (sym e)
 
 -- and has a block
-pub header-block : (f : Phase) (p : Plan) (last : List ℕ) → headerBy f ≡ true → expectedBy f p last ≡ block
+pub header-block : (f : Phase) (p : Plan) (last : List ℕ) → judgedBy f ≡ true → expectedBy f p last ≡ block
 header-block First p last e = refl
 header-block (Chunk at) p last e = clash {t = true} refl (sym e)
-header-block Close p last e = refl
-header-block CloseRefused p last e = refl
+header-block (Close after) p last e = refl
 header-block Ack p last e = clash {t = true} refl (sym e)
 header-block Ended p last e = clash {t = true} refl (sym e)
 
-pub header-going : (f : Phase) → headerBy f ≡ true → endedBy f ≡ false
+pub header-going : (f : Phase) → judgedBy f ≡ true → endedBy f ≡ false
 header-going First e = refl
 header-going (Chunk at) e = refl
-header-going Close e = refl
-header-going CloseRefused e = refl
+header-going (Close after) e = refl
 header-going Ack e = refl
 header-going Ended e = sym e
 
 module _ (D : Source) (p : Plan) (K : Keeps D p) where
   -- the chunk at a block or the closing header, by how many blocks are done
-  pub at-phase : (s : Stand D) (at done b : ℕ) → b ≡ areaLast p (s .collection .last) → (at ≤ b → done ≡ at - 1) → (b < at → done ≡ b)
+  pub at-phase : (s : Stand D) (at done b : ℕ) → b ≡ areaLast p (s .collection .attempt .last) → (at ≤ b → done ≡ at - 1) → (b < at → done ≡ b)
       → Mid D p K s done true → At D p K (phaseAt at b) s
   unfolding phaseAt
   at-phase s at done b eb h k m =
@@ -80,13 +81,13 @@ module _ (D : Source) (p : Plan) (K : Keeps D p) (s : Stand D) (o : Done (D .Sta
   abbrev pub copied : List ℕ
   copied = copyAfter (s .collection) (fine o) (dataOf o) (s .copy)
 
-  common : Common D p K s → step .state .attempt + pick (headerBy (s .collection .phase)) 0 (s .since) ≤ s .captures + 1 → Common D p K (hears D s o)
+  common : Common D p K s → step .state .attempt .number + pick (judgedBy (s .collection .phase)) 0 (s .counts .since) ≤ s .counts .captures + 1 → Common D p K (hears D s o)
   unfolding hears
   common c t =
       let k : Completion = record { ok = fine o; bytes = dataOf o; copy = length (s .copy) } in
       let n = step-counts (s .collection) (fine o) (dataOf o) (length (s .copy)) in
       let l = length-append (s .sent) (given (step .next)) in
-      let more : ℕ = larger (s .most) (chunksOf (s .collection .plan) (step .state .last)) in
+      let more : ℕ = larger (s .most) (chunksOf (s .collection .plan) (step .state .attempt .last)) in
       record {
         plan = n .plan ∙ c .plan;
         size = copy-length (s .collection) (fine o) (dataOf o) (s .copy) ∙ c .size;
@@ -100,7 +101,7 @@ module _ (D : Source) (p : Plan) (K : Keeps D p) (s : Stand D) (o : Done (D .Sta
 
   -- a step and a copy put in
   pub finish : (x : Stepped) (y : List ℕ) → step ≡ x → copied ≡ y → Common D p K s
-      → x .state .attempt + pick (headerBy (s .collection .phase)) 0 (s .since) ≤ s .captures + 1
+      → x .state .attempt .number + pick (judgedBy (s .collection .phase)) 0 (s .counts .since) ≤ s .counts .captures + 1
       → At D p K (x .state .phase) (stepped D s o x y)
       → Inv D p K (hears D s o)
   unfolding hears
@@ -109,15 +110,15 @@ module _ (D : Source) (p : Plan) (K : Keeps D p) (s : Stand D) (o : Done (D .Sta
   -- ---- endings
 
   -- one that is no success leaves zeros
-  pub zeroed : Common D p K s → (next : Bool) (answer : ℕ) → 1 ≤ answer → step ≡ ends (s .collection) next answer false → copied ≡ zeros (p .room)
-  zeroed c next answer l ex =
-      let left = ending-copy (s .collection) (fine o) (dataOf o) (s .copy) (record { answer = answer; newer = false; count = s .collection .count }) (ap (λ (x : Stepped). x .next) ex) in
+  pub zeroed : Common D p K s → (next : Bool) (e : Ending) → good e ≡ false → step ≡ ends (endedIn (s .collection) next) e → copied ≡ zeros (p .room)
+  zeroed c next e l ex =
+      let left = ending-copy (s .collection) (fine o) (dataOf o) (s .copy) (record { ending = e; count = s .collection .count }) (ap (λ (x : Stepped). x .next) ex) in
       left .cleared l ∙ ap zeros (c .size)
 
-  pub ended : Common D p K s → (next newer : Bool) (answer : ℕ) (y : List ℕ) → step ≡ ends (s .collection) next answer newer → copied ≡ y
-      → attemptOf (s .collection) next + pick (headerBy (s .collection .phase)) 0 (s .since) ≤ s .captures + 1
-      → Told D p K (record { answer = answer; newer = newer; count = s .collection .count }) (stepped D s o (ends (s .collection) next answer newer) y)
+  pub ended : Common D p K s → (next : Bool) (e : Ending) (y : List ℕ) → step ≡ ends (endedIn (s .collection) next) e → copied ≡ y
+      → numberIn (s .collection) next + pick (judgedBy (s .collection .phase)) 0 (s .counts .since) ≤ s .counts .captures + 1
+      → Told D p K (record { ending = e; count = s .collection .count }) (stepped D s o (ends (endedIn (s .collection) next) e) y)
       → Inv D p K (hears D s o)
-  ended c next newer answer y ex ey t told =
-      finish (ends (s .collection) next answer newer) y ex ey c t
-      (record { ending = record { answer = answer; newer = newer; count = s .collection .count }; said = refl; told = told; count = omega (arith, c .counted, length-append (s .sent) []) })
+  ended c next e y ex ey t told =
+      finish (ends (endedIn (s .collection) next) e) y ex ey c t
+      (record { ending = record { ending = e; count = s .collection .count }; said = refl; told = told; count = omega (arith, c .counted, length-append (s .sent) []) })

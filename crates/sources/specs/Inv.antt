@@ -2,17 +2,19 @@
 -- Assumes nothing.
 use Prim.Native.Nat.{ℕ, _+_, _-_, _*_, _%_, _≤_}
 use mathlib.Core.Path.{_≡_}
-use mathlib.Core.Bool.{Bool, true, false}
+use mathlib.Core.Bool.{Bool, true, false, not}
 use lib.ListN.{length, take}
+use Rattle.choices.specs.Choice.{pick}
 use Rattle.pages.specs.Pages.{block, most4}
-use Rattle.course.specs.declared.Plan.{Plan}
-use Rattle.course.specs.declared.Phase.{Phase}
-use Rattle.course.specs.declared.Phase.the-variants.{First, Chunk, Close, CloseRefused, Ack, Ended}
-use Rattle.course.specs.Course.{areaLast, areaBytes, showsNone}
-use Rattle.collection.specs.declared.Ending.{Ending}
-use Rattle.collection.specs.declared.Next.the-variants.{Send, Ended as Ends}
+use Rattle.plans.specs.declared.Plan.{Plan}
+use Rattle.plans.specs.declared.Phase.{Phase}
+use Rattle.plans.specs.declared.Phase.the-variants.{First, Chunk, Close, Ack, Ended}
+use Rattle.plans.specs.Plans.{areaLast, areaBytes}
+use Rattle.completions.specs.Completions.{showsNone}
 use Rattle.collection.specs.Collection.{awaitedOf}
-use Rattle.runs.specs.Ended.{Reached}
+use Rattle.collection.specs.declared.Finish.{Finish}
+use Rattle.collection.specs.declared.Next.the-variants.{Send, End as Ends}
+use Rattle.runs.specs.Bound.{Reached}
 use Rattle.sources.specs.Source.{Source, Stand}
 use Rattle.sources.specs.Keeps.{Keeps}
 use Rattle.sources.specs.Promise.{Told}
@@ -27,13 +29,13 @@ module _ (D : Source) (p : Plan) (K : Keeps D p) where
     pub reached : Reached (s .most) (s .collection)
     pub counted : s .collection .count ≡ length (s .sent)
     -- a failed attempt saw a capture
-    pub tries : s .collection .attempt + s .since ≤ s .captures + 1
+    pub tries : s .collection .attempt .number + s .counts .since ≤ s .counts .captures + 1
 
   -- ---- in an attempt
 
   -- the page is still the one that the attempt's header showed, no chunk was refused, and the first blocks are in the copy
-  pub record Kept (s : Stand D) (done : ℕ) (served : Bool) : Type 0 where
-    pub last : K .shows (s .source) .last ≡ s .collection .last
+  pub record Still (s : Stand D) (done : ℕ) (served : Bool) : Type 0 where
+    pub last : K .shows (s .source) .last ≡ s .collection .attempt .last
     pub area : K .area (s .source) ≡ K .area (s .checked)
     pub whole : served ≡ true
     pub filled : take (block * done) (s .copy) ≡ take (block * done) (K .area (s .checked))
@@ -41,27 +43,27 @@ module _ (D : Source) (p : Plan) (K : Keeps D p) where
   -- the attempt's header is the last one that was judged, and the generation moved on by the captures since
   pub record Opened (s : Stand D) : Type 0 where
     pub said : s .said ≡ Send (awaitedOf (s .collection))
-    pub generation : s .collection .generation ≡ K .shows (s .checked) .generation
-    pub last : s .collection .last ≡ K .shows (s .checked) .last
+    pub generation : s .collection .attempt .generation ≡ K .shows (s .checked) .generation
+    pub last : s .collection .attempt .last ≡ K .shows (s .checked) .last
     pub good : K .Good (s .checked)
     pub here : K .Good (s .source)
     pub live : showsNone p (K .shows (s .checked)) ≡ false
-    pub gens : K .shows (s .source) .generation ≡ (s .collection .generation + s .since) % 256
+    pub gens : K .shows (s .source) .generation ≡ (s .collection .attempt .generation + s .counts .since) % 256
     pub begun : 2 ≤ length (s .sent)
 
   pub record Mid (s : Stand D) (done : ℕ) (served : Bool) : Type 0 where
     pub opened : Opened s
-    pub kept : s .since ≡ 0 → showsNone p (K .shows (s .source)) ≡ false → Kept s done served
+    pub kept : s .counts .since ≡ 0 → showsNone p (K .shows (s .source)) ≡ false → Still s done served
 
   -- the copy stands, and the acknowledgement is awaited
   pub record Had (s : Stand D) : Type 0 where
     pub opened : Opened s
-    pub filled : take (areaBytes p (s .collection .last)) (s .copy) ≡ K .area (s .checked)
+    pub filled : take (areaBytes p (s .collection .attempt .last)) (s .copy) ≡ K .area (s .checked)
 
   -- ---- at the end
 
   pub record Over (s : Stand D) : Type 0 where
-    pub ending : Ending
+    pub ending : Finish
     pub said : s .said ≡ Ends ending
     pub told : Told D p K ending s
     pub count : ending .count ≡ length (s .sent)
@@ -71,8 +73,7 @@ module _ (D : Source) (p : Plan) (K : Keeps D p) where
   abbrev pub At : Phase → Stand D → Type 0
   At First s = ⊥
   At (Chunk at) s = Mid s (at - 1) true
-  At Close s = Mid s (areaLast p (s .collection .last)) true
-  At CloseRefused s = Mid s 0 false
+  At (Close after) s = Mid s (pick after 0 (areaLast p (s .collection .attempt .last))) (not after)
   At Ack s = Had s
   At Ended s = Over s
 

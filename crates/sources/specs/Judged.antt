@@ -11,31 +11,35 @@ use lib.Dec.{eqb}
 use borrow.Author.Tests.{leb-false, eq-eqb, eqb-true, eqb-false}
 use Rattle.choices.specs.Tests.{by-test, clash}
 use Rattle.copies.specs.Parts.{zeros}
-use Rattle.answers.specs.Answers.{success, noRoom, withdrawn, nothing}
+use Rattle.answers.specs.Answers.{success}
+use Rattle.header.specs.Header.{faultless}
 use Rattle.pages.specs.Pages.{controllerPage}
 use Rattle.words.specs.declared.Words.{Words}
-use Rattle.course.specs.declared.Plan.{Plan}
-use Rattle.course.specs.declared.Phase.{Phase}
-use Rattle.course.specs.declared.Phase.the-variants.{First, Chunk, Ack}
-use Rattle.course.specs.declared.Seen.{Seen}
-use Rattle.course.specs.Course.{areaLast, areaBytes, fitsRoom, showsNone}
+use Rattle.plans.specs.declared.Plan.{Plan}
+use Rattle.plans.specs.declared.Phase.{Phase}
+use Rattle.plans.specs.declared.Phase.the-variants.{First, Chunk, Ack}
+use Rattle.completions.specs.declared.Seen.{Seen}
+use Rattle.plans.specs.Phases.{judgedBy, closingBy, refusedBy}
+use Rattle.plans.specs.Plans.{areaLast, areaBytes, fitsRoom}
+use Rattle.completions.specs.Completions.{showsNone}
+use Rattle.judgement.specs.Judgement.{matches}
+use Rattle.collection.specs.Collection.{awaitedOf, expectedOf, lookOf, refusalOf, numberIn, sends, ends}
+use Rattle.collection.specs.Steps.{inPhase, openedBy, endedIn, first-none, first-large, first-opens, later-none, later-done, later-acknowledges, later-large, later-opens}
+use Rattle.judgement.specs.declared.Ending.the-variants.{Success, NoRoom, Withdrawn, Nothing}
 use Rattle.collection.specs.declared.Collection.{Collection}
 use Rattle.collection.specs.declared.Next.the-variants.{Send}
 use Rattle.collection.specs.declared.Stepped.{Stepped}
-use Rattle.collection.specs.Collection.{awaitedOf, expectedOf, lookOf, refusalOf, matches, inPhase, attemptOf, openedOf}
-use Rattle.collection.specs.Laws.{closingBy}
-use Rattle.collection.specs.Steps.{sends, ends, refusedBy, first-none, first-large, first-opens, later-none, later-done, later-acknowledges, later-large, later-opens}
 use Rattle.collection.specs.Copied.{ending-copy, sending-copy}
-use Rattle.sources.specs.Source.{Source, Done, Stand, headerBy, fine, dataOf, stepped, hears}
+use Rattle.sources.specs.Source.{Source, Done, Stand, fine, dataOf, stepped, hears}
 use Rattle.sources.specs.Keeps.{Keeps, Header}
 use Rattle.sources.specs.Promise.{Told, succeeded, lacked, withdrew, empty}
-use Rattle.sources.specs.Inv.{Common, Kept, Opened, Mid, Had, Inv}
+use Rattle.sources.specs.Inv.{Common, Still, Opened, Mid, Had, Inv}
 use Rattle.sources.specs.Heard.{takes, look-header, header-block, header-going, at-phase, step, copied, finish, zeroed, ended}
 
-header-no-chunk : (f : Phase) (at : ℕ) → headerBy f ≡ true → f ≡ Chunk at → ⊥
+header-no-chunk : (f : Phase) (at : ℕ) → judgedBy f ≡ true → f ≡ Chunk at → ⊥
 header-no-chunk f at e q = clash {t = true} refl (sym (rw q at e))
 
-module _ (D : Source) (p : Plan) (K : Keeps D p) (s : Stand D) (o : Done (D .State)) (c : Common D p K s) (f : headerBy (s .collection .phase) ≡ true) (hdr : Header p o (K .shows (o .source))) (good : K .Good (o .source)) where
+module _ (D : Source) (p : Plan) (K : Keeps D p) (s : Stand D) (o : Done (D .State)) (c : Common D p K s) (f : judgedBy (s .collection .phase) ≡ true) (hdr : Header p o (K .shows (o .source))) (good : K .Good (o .source)) where
   abbrev state : Collection
   state = s .collection
 
@@ -57,10 +61,10 @@ module _ (D : Source) (p : Plan) (K : Keeps D p) (s : Stand D) (o : Done (D .Sta
   unfolding expectedOf
   taken =
       takes state (fine o) (dataOf o) (length (s .copy)) (c .house) (header-going (state .phase) f) (c .size ∙ ap (λ (q : Plan). q .room) (sym (c .plan)))
-      (rw is-data (rw is-fine (hdr .long ∙ sym (header-block (state .phase) (state .plan) (state .last) f))))
+      (rw is-data (rw is-fine (hdr .long ∙ sym (header-block (state .phase) (state .plan) (state .attempt .last) f))))
 
-  sound : lookOf state (dataOf o) .good ≡ true
-  sound = ap (λ (x : Seen). x .good) look ∙ K .sound (o .source) good
+  sound : faultless (lookOf state (dataOf o) .fault) ≡ true
+  sound = ap (λ (x : Seen). faultless (x .fault)) look ∙ K .sound (o .source) good
 
   none-is : (t : Bool) → showsNone p h ≡ t → showsNone (state .plan) (lookOf state (dataOf o)) ≡ t
   none-is t e = rw (look, c .plan) e
@@ -77,9 +81,7 @@ module _ (D : Source) (p : Plan) (K : Keeps D p) (s : Stand D) (o : Done (D .Sta
     source = o .source;
     sent = stepped D s o x y .sent;
     checked = o .source;
-    since = 0;
-    captures = s .captures;
-    lentRefusals = stepped D s o x y .lentRefusals;
+    counts = record { since = 0; captures = s .counts .captures; lentRefusals = stepped D s o x y .counts .lentRefusals };
     most = stepped D s o x y .most;
   }
 
@@ -89,12 +91,12 @@ module _ (D : Source) (p : Plan) (K : Keeps D p) (s : Stand D) (o : Done (D .Sta
   -- ---- endings
 
   -- the area is larger than the copy
-  large : (next : Bool) → fitsRoom p (h .last) ≡ false → attemptOf state next ≤ s .captures + 1 → step D p K s o ≡ ends state next noRoom false
+  large : (next : Bool) → fitsRoom p (h .last) ≡ false → numberIn state next ≤ s .counts .captures + 1 → step D p K s o ≡ ends (endedIn state next) NoRoom
       → Inv D p K (hears D s o)
   unfolding fitsRoom
   large next r t ex =
-      ended D p K s o c next false noRoom (zeros (p .room)) ex (zeroed D p K s o c next noRoom (omega arith) ex) (rw f (omega arith))
-      (subst (λ (z : Stand D). Told D p K (record { answer = noRoom; newer = false; count = state .count }) z) (judged-is (ends state next noRoom false) (zeros (p .room)))
+      ended D p K s o c next NoRoom (zeros (p .room)) ex (zeroed D p K s o c next NoRoom refl ex) (rw f (omega arith))
+      (subst (λ (z : Stand D). Told D p K (record { ending = NoRoom; count = state .count }) z) (judged-is (ends (endedIn state next) NoRoom) (zeros (p .room)))
       (lacked refl refl (leb-false (areaBytes p (h .last)) (p .room) r)))
 
   -- ---- the header opens an attempt
@@ -102,13 +104,13 @@ module _ (D : Source) (p : Plan) (K : Keeps D p) (s : Stand D) (o : Done (D .Sta
   one-more : (x : Stepped) (w : Words) → x .next ≡ Send w → 1 ≤ length (s .sent) → 2 ≤ length (stepped D s o x [] .sent)
   one-more x w e l = rw e (omega (arith, length-append (s .sent) (w ∷ [])))
 
-  opens : (next : Bool) → showsNone p h ≡ false → 1 ≤ length (s .sent) → attemptOf state next ≤ s .captures + 1
-      → step D p K s o ≡ sends (openedOf state next h) → Inv D p K (hears D s o)
+  opens : (next : Bool) → showsNone p h ≡ false → 1 ≤ length (s .sent) → numberIn state next ≤ s .counts .captures + 1
+      → step D p K s o ≡ sends (openedBy state next h) → Inv D p K (hears D s o)
   unfolding awaitedOf
   opens next live some t ex =
-      let x : Stepped = sends (openedOf state next h) in
+      let x : Stepped = sends (openedBy state next h) in
       let same : copied D p K s o ≡ s .copy =
-      sending-copy state (fine o) (dataOf o) (s .copy) (awaitedOf (openedOf state next h)) (ap (λ (y : Stepped). y .next) ex)
+      sending-copy state (fine o) (dataOf o) (s .copy) (awaitedOf (openedBy state next h)) (ap (λ (y : Stepped). y .next) ex)
       (λ at q k. header-no-chunk (state .phase) at f q) in
       let b = K .byte (o .source) good in
       let m : Mid D p K (judged x (s .copy)) 0 true = record {
@@ -120,7 +122,7 @@ module _ (D : Source) (p : Plan) (K : Keeps D p) (s : Stand D) (o : Done (D .Sta
           here = good;
           live = live;
           gens = omega arith;
-          begun = one-more x (awaitedOf (openedOf state next h)) refl some;
+          begun = one-more x (awaitedOf (openedBy state next h)) refl some;
         };
         kept = λ none l. record { last = refl; area = refl; whole = refl; filled = refl };
       } in
@@ -130,69 +132,68 @@ module _ (D : Source) (p : Plan) (K : Keeps D p) (s : Stand D) (o : Done (D .Sta
 
   -- ---- the first header
 
-  pub first-inv : state .phase ≡ First → length (s .sent) ≡ 1 → state .attempt ≡ 1 → Inv D p K (hears D s o)
+  pub first-inv : state .phase ≡ First → length (s .sent) ≡ 1 → state .attempt .number ≡ 1 → Inv D p K (hears D s o)
   first-inv e one a =
       by-test (showsNone p h)
       (λ n.
       let ex = first-none state (fine o) (dataOf o) (length (s .copy)) taken e is-fine sound (none-is true n) in
-      ended D p K s o c false false nothing (zeros (p .room)) ex (zeroed D p K s o c false nothing (omega arith) ex) (rw f (omega arith))
-      (subst (λ (z : Stand D). Told D p K (record { answer = nothing; newer = false; count = state .count }) z) (judged-is (ends state false nothing false) (zeros (p .room)))
+      ended D p K s o c false Nothing (zeros (p .room)) ex (zeroed D p K s o c false Nothing refl ex) (rw f (omega arith))
+      (subst (λ (z : Stand D). Told D p K (record { ending = Nothing; count = state .count }) z) (judged-is (ends (endedIn state false) Nothing) (zeros (p .room)))
       (empty refl refl n (omega (arith, one, length-append (s .sent) [])))))
       (λ n. by-test (fitsRoom p (h .last))
       (λ r. opens false n (omega arith) (omega arith)
-      (first-opens state (fine o) (dataOf o) (length (s .copy)) taken e is-fine sound (none-is false n) (fits-is true r) ∙ ap (λ (x : Seen). sends (openedOf state false x)) look))
+      (first-opens state (fine o) (dataOf o) (length (s .copy)) taken e is-fine sound (none-is false n) (fits-is true r) ∙ ap (λ (x : Seen). sends (openedBy state false x)) look))
       (λ r. large false r (omega arith)
       (first-large state (fine o) (dataOf o) (length (s .copy)) taken e is-fine sound (none-is false n) (fits-is false r))))
 
   -- ---- a header that closes an attempt: m is what was known before it
 
   module _ (cl : closingBy (state .phase) ≡ true) (op : Opened D p K s) (same : o .source ≡ s .source)
-      (stood : s .since ≡ 0 → showsNone p (K .shows (s .source)) ≡ false → (refusedBy (state .phase) ≡ false) × Kept D p K s (areaLast p (state .last)) true) where
+      (stood : s .counts .since ≡ 0 → showsNone p (K .shows (s .source)) ≡ false → (refusedBy (state .phase) ≡ false) × Still D p K s (areaLast p (state .attempt .last)) true) where
     some : 1 ≤ length (s .sent)
     some = omega (arith, op .begun)
 
-    low : state .generation < 256
+    low : state .attempt .generation < 256
     low = rw (op .generation) (K .byte (s .checked) (op .good))
 
-    moved : h .generation ≡ (state .generation + s .since) % 256
+    moved : h .generation ≡ (state .attempt .generation + s .counts .since) % 256
     moved = rw same (op .gens)
 
     gone : showsNone p h ≡ true → Inv D p K (hears D s o)
     gone n =
         let ex = later-none state (fine o) (dataOf o) (length (s .copy)) taken cl is-fine sound (none-is true n) in
-        ended D p K s o c false false withdrawn (zeros (p .room)) ex (zeroed D p K s o c false withdrawn (omega arith) ex) (rw f (omega (arith, c .tries)))
-        (subst (λ (z : Stand D). Told D p K (record { answer = withdrawn; newer = false; count = state .count }) z) (judged-is (ends state false withdrawn false) (zeros (p .room)))
+        ended D p K s o c false Withdrawn (zeros (p .room)) ex (zeroed D p K s o c false Withdrawn refl ex) (rw f (omega (arith, c .tries)))
+        (subst (λ (z : Stand D). Told D p K (record { ending = Withdrawn; count = state .count }) z) (judged-is (ends (endedIn state false) Withdrawn) (zeros (p .room)))
         (withdrew refl refl n (omega (arith, op .begun, length-append (s .sent) []))))
 
     module _ (n : showsNone p h ≡ false) where
-      match-is : (t : Bool) → eqb (h .generation) (state .generation) ≡ t → matches state (lookOf state (dataOf o)) ≡ t
-      unfolding matches
+      match-is : (t : Bool) → eqb (h .generation) (state .attempt .generation) ≡ t → matches (state .attempt) (lookOf state (dataOf o)) ≡ t
       match-is t e = rw look e
 
       -- the generation is another one
-      mismatch : s .captures < p .attempts → eqb (h .generation) (state .generation) ≡ false → Inv D p K (hears D s o)
+      mismatch : s .counts .captures < p .attempts → eqb (h .generation) (state .attempt .generation) ≡ false → Inv D p K (hears D s o)
       mismatch more e =
-          let hit : 1 ≤ s .since = omega (arith, eqb-false (h .generation) (state .generation) e, moved, low) in
-          let t : state .attempt + 1 ≤ s .captures + 1 = omega (arith, c .tries) in
-          let left : state .attempt < state .plan .attempts = rw (c .plan) (omega arith) in
+          let hit : 1 ≤ s .counts .since = omega (arith, eqb-false (h .generation) (state .attempt .generation) e, moved, low) in
+          let t : state .attempt .number + 1 ≤ s .counts .captures + 1 = omega (arith, c .tries) in
+          let left : state .attempt .number < state .plan .attempts = rw (c .plan) (omega arith) in
           by-test (fitsRoom p (h .last))
           (λ r. opens true n some t
           (later-opens state (fine o) (dataOf o) (length (s .copy)) taken cl is-fine sound (none-is false n) (match-is false e) left (fits-is true r)
-          ∙ ap (λ (x : Seen). sends (openedOf state true x)) look))
+          ∙ ap (λ (x : Seen). sends (openedBy state true x)) look))
           (λ r. large true r t
           (later-large state (fine o) (dataOf o) (length (s .copy)) taken cl is-fine sound (none-is false n) (match-is false e) left (fits-is false r)))
 
       -- the generation is the attempt's
-      module _ (e : eqb (h .generation) (state .generation) ≡ true) (refused : refusedBy (state .phase) ≡ false) (k : Kept D p K s (areaLast p (state .last)) true) where
-        last-is : state .last ≡ h .last
+      module _ (e : eqb (h .generation) (state .attempt .generation) ≡ true) (refused : refusedBy (state .phase) ≡ false) (k : Still D p K s (areaLast p (state .attempt .last)) true) where
+        last-is : state .attempt .last ≡ h .last
         last-is = sym (k .last) ∙ ap (λ (d : D .State). K .shows d .last) (sym same)
 
-        filled : take (areaBytes p (state .last)) (s .copy) ≡ K .area (o .source)
+        filled : take (areaBytes p (state .attempt .last)) (s .copy) ≡ K .area (o .source)
         filled =
-            let l : length (K .area (o .source)) ≡ areaBytes p (state .last) = K .long (o .source) good ∙ ap (areaBytes p) (sym last-is) in
+            let l : length (K .area (o .source)) ≡ areaBytes p (state .attempt .last) = K .long (o .source) good ∙ ap (areaBytes p) (sym last-is) in
             k .filled
-            ∙ ap (λ (a : List ℕ). take (areaBytes p (state .last)) a) (sym (k .area) ∙ ap (K .area) (sym same))
-            ∙ take-all (areaBytes p (state .last)) (K .area (o .source)) (omega (arith, l))
+            ∙ ap (λ (a : List ℕ). take (areaBytes p (state .attempt .last)) a) (sym (k .area) ∙ ap (K .area) (sym same))
+            ∙ take-all (areaBytes p (state .attempt .last)) (K .area (o .source)) (omega (arith, l))
 
         -- 08h is to be acknowledged
         acknowledges : eqb (p .page) controllerPage ≡ true → Inv D p K (hears D s o)
@@ -204,7 +205,7 @@ module _ (D : Source) (p : Plan) (K : Keeps D p) (s : Stand D) (o : Done (D .Sta
             sending-copy state (fine o) (dataOf o) (s .copy) (awaitedOf (inPhase state Ack)) (ap (λ (y : Stepped). y .next) ex)
             (λ at q z. header-no-chunk (state .phase) at f q) in
             let b = K .byte (o .source) good in
-            let g = eqb-true (h .generation) (state .generation) e in
+            let g = eqb-true (h .generation) (state .attempt .generation) e in
             finish D p K s o x (s .copy) ex still c (rw f (omega (arith, c .tries)))
             (subst (λ (z : Stand D). Had D p K z) (judged-is x (s .copy))
             (record {
@@ -225,25 +226,25 @@ module _ (D : Source) (p : Plan) (K : Keeps D p) (s : Stand D) (o : Done (D .Sta
         done : eqb (p .page) controllerPage ≡ false → Inv D p K (hears D s o)
         done page =
             let ex = later-done state (fine o) (dataOf o) (length (s .copy)) taken cl is-fine sound (none-is false n) (match-is true e) refused (rw (c .plan) page) in
-            let left = ending-copy state (fine o) (dataOf o) (s .copy) (record { answer = success; newer = false; count = state .count }) (ap (λ (y : Stepped). y .next) ex) in
-            let l : areaBytes p (state .last) ≡ length (K .area (o .source)) = ap (areaBytes p) last-is ∙ sym (K .long (o .source) good) in
+            let left = ending-copy state (fine o) (dataOf o) (s .copy) (record { ending = Success false; count = state .count }) (ap (λ (y : Stepped). y .next) ex) in
+            let l : areaBytes p (state .attempt .last) ≡ length (K .area (o .source)) = ap (areaBytes p) last-is ∙ sym (K .long (o .source) good) in
             let ey : copied D p K s o ≡ K .area (o .source) ++ zeros (p .room - length (K .area (o .source))) =
             left .stood refl ∙ rw (c .plan, c .size, filled, l) in
-            ended D p K s o c false false success _ ex ey (rw f (omega (arith, c .tries)))
-            (subst (λ (z : Stand D). Told D p K (record { answer = success; newer = false; count = state .count }) z)
-            (judged-is (ends state false success false) (K .area (o .source) ++ zeros (p .room - length (K .area (o .source)))))
-            (succeeded refl refl n refl))
+            ended D p K s o c false (Success false) _ ex ey (rw f (omega (arith, c .tries)))
+            (subst (λ (z : Stand D). Told D p K (record { ending = Success false; count = state .count }) z)
+            (judged-is (ends (endedIn state false) (Success false)) (K .area (o .source) ++ zeros (p .room - length (K .area (o .source)))))
+            (succeeded refl refl n))
 
         stands : Inv D p K (hears D s o)
         stands = by-test (eqb (p .page) controllerPage) (λ t. acknowledges t) (λ t. done t)
 
-    pub closing-inv : s .since ≤ 255 → s .captures < p .attempts → Inv D p K (hears D s o)
+    pub closing-inv : s .counts .since ≤ 255 → s .counts .captures < p .attempts → Inv D p K (hears D s o)
     closing-inv few more =
         by-test (showsNone p h)
         (λ n. gone n)
-        (λ n. by-test (eqb (h .generation) (state .generation))
+        (λ n. by-test (eqb (h .generation) (state .attempt .generation))
         (λ e.
-        let none : s .since ≡ 0 = omega (arith, eqb-true (h .generation) (state .generation) e, moved, low) in
+        let none : s .counts .since ≡ 0 = omega (arith, eqb-true (h .generation) (state .attempt .generation) e, moved, low) in
         let k = stood none (rw (← same) n) in
         stands n e (k .0) (k .1))
         (λ e. mismatch n more e))

@@ -7,12 +7,14 @@ use mathlib.Core.Bool.{true, false}
 use lib.ListN.{length, take, drop}
 use Rattle.answers.specs.Answers.{success}
 use Rattle.pages.specs.Pages.{block}
-use Rattle.course.specs.declared.Plan.{Plan}
-use Rattle.course.specs.declared.Phase.{Phase}
-use Rattle.course.specs.declared.Phase.the-variants.{First, Chunk, Ack}
-use Rattle.course.specs.declared.Seen.{Seen}
-use Rattle.course.specs.Course.{areaLast, areaBytes, chunkBlocks, awaitedBy, insideBy, fitsRoom, seenOf, showsNone}
-use Rattle.collection.specs.Laws.{closingBy}
+use Rattle.header.specs.Header.{faultless}
+use Rattle.plans.specs.declared.Plan.{Plan}
+use Rattle.plans.specs.declared.Phase.{Phase}
+use Rattle.plans.specs.declared.Phase.the-variants.{First, Chunk, Ack}
+use Rattle.completions.specs.declared.Seen.{Seen}
+use Rattle.plans.specs.Phases.{closingBy}
+use Rattle.plans.specs.Plans.{areaLast, areaBytes, chunkBlocks, wordsBy, insideBy, fitsRoom}
+use Rattle.completions.specs.Completions.{seenOf, showsNone}
 use Rattle.sources.specs.Source.{Source, Done, forLent}
 
 -- the completion is the header of a source that shows this
@@ -23,14 +25,14 @@ pub record Header (p : Plan) {S : Type 0} (o : Done S) (h : Seen) : Type 0 where
 
 -- the command that a phase awaits, answered
 abbrev pub asks : (D : Source) → Plan → Phase → D .Lent → List ℕ → D .State → Done (D .State)
-asks D p f l last d = D .command l (awaitedBy f p last) d
+asks D p f l last d = D .command l (wordsBy f p last) d
 
 pub record Keeps (D : Source) (p : Plan) : Type 1 where
   -- what every source of the run keeps, what its header shows, and the bytes of the wanted area
   pub Good : D .State → Type 0
   pub shows : D .State → Seen
   pub area : D .State → List ℕ
-  pub sound : (d : D .State) → Good d → shows d .good ≡ true
+  pub sound : (d : D .State) → Good d → faultless (shows d .fault) ≡ true
   pub byte : (d : D .State) → Good d → shows d .generation < 256
   pub long : (d : D .State) → Good d → length (area d) ≡ areaBytes p (shows d .last)
   -- a capture moves the generation on by one; where there is none, a page that has data still is as it was

@@ -7,19 +7,20 @@ use mathlib.Core.Bool.{true, false}
 use lib.ListN.{length}
 use lib.Dec.{ltb}
 use Rattle.copies.specs.Parts.{zeros}
-use Rattle.answers.specs.Answers.{success, noRoom, withdrawn, nothing}
 use Rattle.pages.specs.Pages.{most4}
-use Rattle.course.specs.declared.Plan.{Plan}
-use Rattle.course.specs.Course.{areaBytes, showsNone}
-use Rattle.collection.specs.declared.Ending.{Ending}
-use Rattle.collection.specs.declared.Next.the-variants.{Ended as Ends, Refused}
+use Rattle.plans.specs.declared.Plan.{Plan}
+use Rattle.plans.specs.Plans.{areaBytes}
+use Rattle.completions.specs.Completions.{showsNone}
+use Rattle.judgement.specs.declared.Ending.the-variants.{Success, NoRoom, Withdrawn, Nothing}
+use Rattle.collection.specs.declared.Finish.{Finish}
+use Rattle.collection.specs.declared.Next.the-variants.{End as Ends, Refuse}
 use Rattle.runs.specs.Run.{acknowledging}
 use Rattle.sources.specs.Source.{Source, Stand}
 use Rattle.sources.specs.Keeps.{Keeps}
 
 -- the run has ended
 pub record Finished (D : Source) (s : Stand D) : Type 0 where
-  pub ending : Ending
+  pub ending : Finish
   pub said : s .said ≡ Ends ending
 
 -- the most commands of a run with k captures at most, C being the chunks: 1 + (k + 1)(C + 1), one more on 08h
@@ -33,12 +34,12 @@ module _ (D : Source) (p : Plan) (K : Keeps D p) where
   -- withdrawn, since 08h of d has no data and the first header was another one;
   -- with nothing, since 08h of d has no data and no other command was sent.
   -- All but success leave zeros.
-  pub data Told (e : Ending) (s : Stand D) : Type 0 where
-    succeeded : e .answer ≡ success → s .copy ≡ K .area (s .checked) ++ zeros (p .room - length (K .area (s .checked)))
-        → showsNone p (K .shows (s .checked)) ≡ false → e .newer ≡ ltb 0 (s .since) → Told e s
-    lacked : e .answer ≡ noRoom → s .copy ≡ zeros (p .room) → p .room < areaBytes p (K .shows (s .checked) .last) → Told e s
-    withdrew : e .answer ≡ withdrawn → s .copy ≡ zeros (p .room) → showsNone p (K .shows (s .checked)) ≡ true → 2 ≤ length (s .sent) → Told e s
-    empty : e .answer ≡ nothing → s .copy ≡ zeros (p .room) → showsNone p (K .shows (s .checked)) ≡ true → length (s .sent) ≡ 1 → Told e s
+  pub data Told (e : Finish) (s : Stand D) : Type 0 where
+    succeeded : e .ending ≡ Success (ltb 0 (s .counts .since)) → s .copy ≡ K .area (s .checked) ++ zeros (p .room - length (K .area (s .checked)))
+        → showsNone p (K .shows (s .checked)) ≡ false → Told e s
+    lacked : e .ending ≡ NoRoom → s .copy ≡ zeros (p .room) → p .room < areaBytes p (K .shows (s .checked) .last) → Told e s
+    withdrew : e .ending ≡ Withdrawn → s .copy ≡ zeros (p .room) → showsNone p (K .shows (s .checked)) ≡ true → 2 ≤ length (s .sent) → Told e s
+    empty : e .ending ≡ Nothing → s .copy ≡ zeros (p .room) → showsNone p (K .shows (s .checked)) ≡ true → length (s .sent) ≡ 1 → Told e s
 
   -- of a run with k captures at most
   pub record Promise (k : ℕ) (s : Stand D) : Type 0 where
@@ -47,7 +48,7 @@ module _ (D : Source) (p : Plan) (K : Keeps D p) where
     pub bounded : s .collection .count ≤ mostCommands p k (s .most)
     pub limited : s .collection .count ≤ mostCommands p k most4
     -- never 13, 14 or 15
-    pub never : (n : ℕ) → s .said ≡ Refused n → ⊥
+    pub never : (n : ℕ) → s .said ≡ Refuse n → ⊥
     -- every ending is one of the four, and says the count
-    pub told : (e : Ending) → s .said ≡ Ends e → Told e s
-    pub says : (e : Ending) → s .said ≡ Ends e → e .count ≡ length (s .sent)
+    pub told : (e : Finish) → s .said ≡ Ends e → Told e s
+    pub says : (e : Finish) → s .said ≡ Ends e → e .count ≡ length (s .sent)

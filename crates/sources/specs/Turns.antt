@@ -9,21 +9,21 @@ use lib.ListN.{length}
 use Rattle.choices.specs.Choice.{pick-cases}
 use Rattle.choices.specs.Tests.{by-test, clash}
 use Rattle.words.specs.declared.Words.{Words}
-use Rattle.course.specs.declared.Plan.{Plan}
-use Rattle.course.specs.declared.Phase.{Phase}
-use Rattle.course.specs.declared.Phase.the-variants.{First, Chunk, Close, CloseRefused, Ack, Ended}
-use Rattle.course.specs.Course.{areaLast, awaitedBy, endedBy, showsNone}
+use Rattle.plans.specs.declared.Plan.{Plan}
+use Rattle.plans.specs.declared.Phase.{Phase}
+use Rattle.plans.specs.declared.Phase.the-variants.{First, Chunk, Close, Ack, Ended}
+use Rattle.plans.specs.Phases.{judgedBy, endedBy, closingBy, refusedBy}
+use Rattle.plans.specs.Plans.{areaLast, wordsBy}
+use Rattle.completions.specs.Completions.{showsNone}
+use Rattle.collection.specs.Collection.{awaitedOf}
 use Rattle.collection.specs.declared.Collection.{Collection}
 use Rattle.collection.specs.declared.Next.{Next}
-use Rattle.collection.specs.declared.Next.the-variants.{Send, Ended as Ends, Refused}
-use Rattle.collection.specs.Collection.{awaitedOf}
-use Rattle.collection.specs.Laws.{closingBy}
-use Rattle.collection.specs.Steps.{refusedBy}
+use Rattle.collection.specs.declared.Next.the-variants.{Send, End as Ends, Refuse}
 use Rattle.runs.specs.Run.{given}
 use Rattle.runs.specs.Counted.{step-counts}
-use Rattle.sources.specs.Source.{Source, Done, Turn, Stand, headerBy, forLent, fine, dataOf, happens, happen, hears, turnBy, run}
+use Rattle.sources.specs.Source.{Source, Done, Turn, Stand, forLent, fine, dataOf, happens, happen, hears, turnBy, run}
 use Rattle.sources.specs.Keeps.{Keeps, Header}
-use Rattle.sources.specs.Inv.{Common, Kept, Opened, Over, At, Inv}
+use Rattle.sources.specs.Inv.{Common, Still, Opened, Over, At, Inv}
 use Rattle.sources.specs.Happened.{happen-inv}
 use Rattle.sources.specs.Judged.{closing-inv}
 use Rattle.sources.specs.Chunks.{chunk-inv, ack-inv}
@@ -32,37 +32,37 @@ module _ (D : Source) (p : Plan) (K : Keeps D p) where
   -- ---- a command of the run
 
   -- a header that closes an attempt
-  closes : (f : Phase) → closingBy f ≡ true → headerBy f ≡ true → (s : Stand D) (l : D .Lent) → Common D p K s → s .collection .phase ≡ f → Opened D p K s
-      → (s .since ≡ 0 → showsNone p (K .shows (s .source)) ≡ false → (refusedBy f ≡ false) × Kept D p K s (areaLast p (s .collection .last)) true)
-      → s .since ≤ 255 → s .captures < p .attempts → forLent (D .command l (awaitedBy f p (s .collection .last)) (s .source) .answer) ≡ false
-      → Inv D p K (hears D s (D .command l (awaitedBy f p (s .collection .last)) (s .source)))
+  closes : (f : Phase) → closingBy f ≡ true → judgedBy f ≡ true → (s : Stand D) (l : D .Lent) → Common D p K s → s .collection .phase ≡ f → Opened D p K s
+      → (s .counts .since ≡ 0 → showsNone p (K .shows (s .source)) ≡ false → (refusedBy f ≡ false) × Still D p K s (areaLast p (s .collection .attempt .last)) true)
+      → s .counts .since ≤ 255 → s .counts .captures < p .attempts → forLent (D .command l (wordsBy f p (s .collection .attempt .last)) (s .source) .answer) ≡ false
+      → Inv D p K (hears D s (D .command l (wordsBy f p (s .collection .attempt .last)) (s .source)))
   closes f cl hd s l c e op stood few more fair =
-      let o : Done (D .State) = D .command l (awaitedBy f p (s .collection .last)) (s .source) in
-      let r = K .closing f cl l (s .collection .last) (s .source) (op .here) fair in
+      let o : Done (D .State) = D .command l (wordsBy f p (s .collection .attempt .last)) (s .source) in
+      let r = K .closing f cl l (s .collection .attempt .last) (s .source) (op .here) fair in
       let same : o .source ≡ s .source = r .1 in
       closing-inv D p K s o c (rw e hd) (subst (λ (d : D .State). Header p o (K .shows d)) (sym same) (r .0)) (subst (λ (d : D .State). K .Good d) (sym same) (op .here)) (rw e cl) op same
       (λ none live. let k = stood none live in (ap refusedBy e ∙ k .0, k .1)) few more
 
   own-by : (f : Phase) (s : Stand D) (l : D .Lent) → Common D p K s → s .collection .phase ≡ f → At D p K f s → endedBy f ≡ false
-      → s .since ≤ 255 → s .captures < p .attempts → forLent (D .command l (awaitedBy f p (s .collection .last)) (s .source) .answer) ≡ false
-      → Inv D p K (hears D s (D .command l (awaitedBy f p (s .collection .last)) (s .source)))
+      → s .counts .since ≤ 255 → s .counts .captures < p .attempts → forLent (D .command l (wordsBy f p (s .collection .attempt .last)) (s .source) .answer) ≡ false
+      → Inv D p K (hears D s (D .command l (wordsBy f p (s .collection .attempt .last)) (s .source)))
   own-by First s l c e a g few more fair = absurd a
   own-by (Chunk at) s l c e a g few more fair =
-      let r = K .chunk at l (s .collection .last) (s .source) (a .opened .here) (rw (c .plan) at (c .house .room)) (rw (c .plan, e) at (c .house .inside)) fair in
-      chunk-inv D p K s (D .command l (awaitedBy (Chunk at) p (s .collection .last)) (s .source)) c at e a (r .0) (r .1) (r .2)
-  own-by Close s l c e a g few more fair = closes Close refl refl s l c e (a .opened) (λ none live. (refl, a .kept none live)) few more fair
-  own-by CloseRefused s l c e a g few more fair =
-      closes CloseRefused refl refl s l c e (a .opened) (λ none live. clash {t = true} refl (sym (a .kept none live .whole))) few more fair
+      let r = K .chunk at l (s .collection .attempt .last) (s .source) (a .opened .here) (rw (c .plan) at (c .house .room)) (rw (c .plan, e) at (c .house .inside)) fair in
+      chunk-inv D p K s (D .command l (wordsBy (Chunk at) p (s .collection .attempt .last)) (s .source)) c at e a (r .0) (r .1) (r .2)
+  own-by (Close false) s l c e a g few more fair = closes (Close false) refl refl s l c e (a .opened) (λ none live. (refl, a .kept none live)) few more fair
+  own-by (Close true) s l c e a g few more fair =
+      closes (Close true) refl refl s l c e (a .opened) (λ none live. clash {t = true} refl (sym (a .kept none live .whole))) few more fair
   own-by Ack s l c e a g few more fair =
-      ack-inv D p K s (D .command l (awaitedBy Ack p (s .collection .last)) (s .source)) c e a (K .ack l (s .collection .last) (s .source) (a .opened .here) fair) few
+      ack-inv D p K s (D .command l (wordsBy Ack p (s .collection .attempt .last)) (s .source)) c e a (K .ack l (s .collection .attempt .last) (s .source) (a .opened .here) fair) few
   own-by Ended s l c e a g few more fair = clash {t = true} refl g
 
-  own-inv : (s : Stand D) (l : D .Lent) → Inv D p K s → endedBy (s .collection .phase) ≡ false → s .since ≤ 255 → s .captures < p .attempts
+  own-inv : (s : Stand D) (l : D .Lent) → Inv D p K s → endedBy (s .collection .phase) ≡ false → s .counts .since ≤ 255 → s .counts .captures < p .attempts
       → forLent (D .command l (awaitedOf (s .collection)) (s .source) .answer) ≡ false
       → Inv D p K (hears D s (D .command l (awaitedOf (s .collection)) (s .source)))
   unfolding awaitedOf
   own-inv s l i g few more =
-      let q : awaitedBy (s .collection .phase) p (s .collection .last) ≡ awaitedBy (s .collection .phase) (s .collection .plan) (s .collection .last) = rw (i .common .plan) in
+      let q : wordsBy (s .collection .phase) p (s .collection .attempt .last) ≡ wordsBy (s .collection .phase) (s .collection .plan) (s .collection .attempt .last) = rw (i .common .plan) in
       subst (λ (w : Words). forLent (D .command l w (s .source) .answer) ≡ false → Inv D p K (hears D s (D .command l w (s .source)))) q
       (own-by (s .collection .phase) s l (i .common) refl (i .now) g few more)
 
@@ -75,29 +75,29 @@ module _ (D : Source) (p : Plan) (K : Keeps D p) where
   happen-state (e ∷ es) s = happen-state es (happens D e s)
 
   -- captures and refusals for lent data only grow
-  happen-grows : (es : List (D .Event)) (s : Stand D) → (s .captures ≤ happen D es s .captures) × (s .lentRefusals ≤ happen D es s .lentRefusals)
+  happen-grows : (es : List (D .Event)) (s : Stand D) → (s .counts .captures ≤ happen D es s .counts .captures) × (s .counts .lentRefusals ≤ happen D es s .counts .lentRefusals)
   unfolding happen happens
   happen-grows [] s = (omega arith, omega arith)
   happen-grows (e ∷ es) s = let h = happen-grows es (happens D e s) in (omega (arith, h .0), omega (arith, h .1))
 
-  hears-grows : (s : Stand D) (o : Done (D .State)) → (s .captures ≡ hears D s o .captures) × (s .lentRefusals ≤ hears D s o .lentRefusals)
+  hears-grows : (s : Stand D) (o : Done (D .State)) → (s .counts .captures ≡ hears D s o .counts .captures) × (s .counts .lentRefusals ≤ hears D s o .counts .lentRefusals)
   unfolding hears
   hears-grows s o = (refl, omega arith)
 
   -- a command that is refused for lent data is counted
-  pub no-lent-refusal : (s : Stand D) (o : Done (D .State)) → hears D s o .lentRefusals ≡ 0 → forLent (o .answer) ≡ false
+  pub no-lent-refusal : (s : Stand D) (o : Done (D .State)) → hears D s o .counts .lentRefusals ≡ 0 → forLent (o .answer) ≡ false
   unfolding hears
-  no-lent-refusal s o = pick-cases (λ (n : ℕ). s .lentRefusals + n ≡ 0 → forLent (o .answer) ≡ false) (forLent (o .answer)) (λ e z. absurd (omega arith)) (λ e z. e)
+  no-lent-refusal s o = pick-cases (λ (n : ℕ). s .counts .lentRefusals + n ≡ 0 → forLent (o .answer) ≡ false) (forLent (o .answer)) (λ e z. absurd (omega arith)) (λ e z. e)
 
-  turn-grows : (n : Next) (t : Turn D) (s : Stand D) → (s .captures ≤ turnBy D n t s .captures) × (s .lentRefusals ≤ turnBy D n t s .lentRefusals)
+  turn-grows : (n : Next) (t : Turn D) (s : Stand D) → (s .counts .captures ≤ turnBy D n t s .counts .captures) × (s .counts .lentRefusals ≤ turnBy D n t s .counts .lentRefusals)
   turn-grows (Send w) t s =
       let a = happen-grows (t .events) s in
       let b = hears-grows (happen D (t .events) s) (D .command (t .lent) w (happen D (t .events) s .source)) in
       (omega (arith, a .0, b .0), omega (arith, a .1, b .1))
   turn-grows (Ends e) t s = (omega arith, omega arith)
-  turn-grows (Refused n) t s = (omega arith, omega arith)
+  turn-grows (Refuse n) t s = (omega arith, omega arith)
 
-  pub run-grows : (ts : List (Turn D)) (s : Stand D) → (s .captures ≤ run D ts s .captures) × (s .lentRefusals ≤ run D ts s .lentRefusals)
+  pub run-grows : (ts : List (Turn D)) (s : Stand D) → (s .counts .captures ≤ run D ts s .counts .captures) × (s .counts .lentRefusals ≤ run D ts s .counts .lentRefusals)
   unfolding run
   run-grows [] s = (omega arith, omega arith)
   run-grows (t ∷ ts) s =
@@ -106,23 +106,21 @@ module _ (D : Source) (p : Plan) (K : Keeps D p) where
       (omega (arith, a .0, b .0), omega (arith, a .1, b .1))
 
   -- the captures since the last header are among those since the first command
-  since-few : (s : Stand D) → Common D p K s → s .since ≤ s .captures
+  since-few : (s : Stand D) → Common D p K s → s .counts .since ≤ s .counts .captures
   since-few s c = omega (arith, c .tries, c .house .low)
 
   -- what is awaited is sent, and at the end nothing is
   pub said-by : (f : Phase) (s : Stand D) → At D p K f s → endedBy f ≡ false → s .said ≡ Send (awaitedOf (s .collection))
   said-by First s a g = absurd a
   said-by (Chunk at) s a g = a .opened .said
-  said-by Close s a g = a .opened .said
-  said-by CloseRefused s a g = a .opened .said
+  said-by (Close after) s a g = a .opened .said
   said-by Ack s a g = a .opened .said
   said-by Ended s a g = clash {t = true} refl g
 
   pub over-by : (f : Phase) (s : Stand D) → At D p K f s → endedBy f ≡ true → Over D p K s
   over-by First s a g = clash {t = true} refl (sym g)
   over-by (Chunk at) s a g = clash {t = true} refl (sym g)
-  over-by Close s a g = clash {t = true} refl (sym g)
-  over-by CloseRefused s a g = clash {t = true} refl (sym g)
+  over-by (Close after) s a g = clash {t = true} refl (sym g)
   over-by Ack s a g = clash {t = true} refl (sym g)
   over-by Ended s a g = a
 
@@ -135,24 +133,24 @@ module _ (D : Source) (p : Plan) (K : Keeps D p) where
     stays g = subst (λ (n : Next). Inv D p K (turnBy D n t s)) (sym (over-by (s .collection .phase) s (i .now) g .said)) i
 
     -- few captures since the last header, and an attempt left
-    goes : endedBy (s .collection .phase) ≡ false → before .since ≤ 255 → before .captures < p .attempts → turnBy D (s .said) t s .lentRefusals ≡ 0
+    goes : endedBy (s .collection .phase) ≡ false → before .counts .since ≤ 255 → before .counts .captures < p .attempts → turnBy D (s .said) t s .counts .lentRefusals ≡ 0
         → Inv D p K (turnBy D (s .said) t s)
     goes g few more none =
         let said = said-by (s .collection .phase) s (i .now) g in
         let st : before .collection ≡ s .collection = happen-state (t .events) s in
         let w : awaitedOf (before .collection) ≡ awaitedOf (s .collection) = ap awaitedOf st in
-        let fair = no-lent-refusal before (D .command (t .lent) (awaitedOf (s .collection)) (before .source)) (subst (λ (n : Next). turnBy D n t s .lentRefusals ≡ 0) said none) in
+        let fair = no-lent-refusal before (D .command (t .lent) (awaitedOf (s .collection)) (before .source)) (subst (λ (n : Next). turnBy D n t s .counts .lentRefusals ≡ 0) said none) in
         subst (λ (n : Next). Inv D p K (turnBy D n t s)) (sym said)
         (rw w at (own-inv before (t .lent) (happen-inv D p K (t .events) s g i) (rw st g) few more (rw w fair)))
 
-    turn-captures : endedBy (s .collection .phase) ≡ false → before .captures ≡ turnBy D (s .said) t s .captures
+    turn-captures : endedBy (s .collection .phase) ≡ false → before .counts .captures ≡ turnBy D (s .said) t s .counts .captures
     turn-captures g =
         let said = said-by (s .collection .phase) s (i .now) g in
-        subst (λ (n : Next). before .captures ≡ turnBy D n t s .captures) (sym said)
+        subst (λ (n : Next). before .counts .captures ≡ turnBy D n t s .counts .captures) (sym said)
         (hears-grows before (D .command (t .lent) (awaitedOf (s .collection)) (before .source)) .0)
 
     -- k bounds the captures of the whole run, so those of each attempt too
-    turn-inv : (k : ℕ) → k ≤ 255 → k < p .attempts → turnBy D (s .said) t s .captures ≤ k → turnBy D (s .said) t s .lentRefusals ≡ 0 → Inv D p K (turnBy D (s .said) t s)
+    turn-inv : (k : ℕ) → k ≤ 255 → k < p .attempts → turnBy D (s .said) t s .counts .captures ≤ k → turnBy D (s .said) t s .counts .lentRefusals ≡ 0 → Inv D p K (turnBy D (s .said) t s)
     turn-inv k few more l none =
         by-test (endedBy (s .collection .phase)) (λ g. stays g)
         (λ g.
@@ -162,7 +160,7 @@ module _ (D : Source) (p : Plan) (K : Keeps D p) where
 
   -- ---- a run
 
-  pub run-inv : (k : ℕ) → k ≤ 255 → k < p .attempts → (ts : List (Turn D)) (s : Stand D) → Inv D p K s → run D ts s .captures ≤ k → run D ts s .lentRefusals ≡ 0
+  pub run-inv : (k : ℕ) → k ≤ 255 → k < p .attempts → (ts : List (Turn D)) (s : Stand D) → Inv D p K s → run D ts s .counts .captures ≤ k → run D ts s .counts .lentRefusals ≡ 0
       → Inv D p K (run D ts s)
   unfolding run
   run-inv k few more [] s i l none = i
@@ -190,4 +188,4 @@ module _ (D : Source) (p : Plan) (K : Keeps D p) where
           let c : b .collection .count ≡ s .collection .count = ap (λ (x : Collection). x .count) (happen-state (t .events) s) in
           (omega (arith, h, c, r .0, r .1), ap (λ (n : Next). length (given n)) q)
       by (Ends x) q r = let z : _≡_ {A = ℕ} 0 1 = sym (ap (λ (n : Next). length (given n)) q) ∙ r .1 in absurd (omega arith)
-      by (Refused n) q r = let z : _≡_ {A = ℕ} 0 1 = sym (ap (λ (n : Next). length (given n)) q) ∙ r .1 in absurd (omega arith)
+      by (Refuse n) q r = let z : _≡_ {A = ℕ} 0 1 = sym (ap (λ (n : Next). length (given n)) q) ∙ r .1 in absurd (omega arith)

@@ -3,7 +3,7 @@
 use Prim.Native.Nat.{ℕ, zero, suc, _^_, _<_}
 use mathlib.Core.Path.{_≡_, refl, sym, ap, _∙_}
 use mathlib.Core.List.{List}
-use mathlib.Core.Bool.{Bool, true, _||_}
+use mathlib.Core.Bool.{Bool, true, false, _||_}
 use native.Mathlib.Omega.{arith}
 use lib.ListN.{length, getD}
 use lib.Dec.{leb, eqb}
@@ -12,8 +12,8 @@ use Rattle.choices.specs.Tests.{holds, each}
 use Rattle.littleendian.specs.Numbers.{bytesOf, valueOf, valueAt}
 use Rattle.littleendian.specs.Back.{value-back, run-all, both, join, Bytes, bytes-kept, Four, last-back, last-kept, eight}
 use Rattle.pages.specs.declared.Caps.{Caps}
-use Rattle.course.specs.declared.Phase.{Phase}
-use Rattle.course.specs.declared.Phase.the-variants.{First, Chunk, Close, CloseRefused, Ack, Ended}
+use Rattle.plans.specs.declared.Phase.{Phase}
+use Rattle.plans.specs.declared.Phase.the-variants.{First, Chunk, Close, Ack, Ended}
 use Rattle.collection.specs.declared.Collection.{Collection}
 use Rattle.shared_layouts.specs.Layouts.{one}
 use Rattle.shared_layouts.specs.Back.{one-most, one-back, one-kept, caps-most, caps-back, caps-kept}
@@ -23,25 +23,25 @@ use Rattle.state_layout.specs.Layout.{phaseByte, chunkStart, phaseOf, st
 pub record Typed (s : Collection) : Type 0 where
   pub chunk : s .plan .chunk < 256 ^ 4
   pub attempts : s .plan .attempts < 256 ^ 4
-  pub attempt : s .attempt < 256 ^ 4
+  pub attempt : s .attempt .number < 256 ^ 4
   pub start : chunkStart (s .phase) < 256 ^ 4
   pub room : s .plan .room < 256 ^ 8
   pub count : s .count < 256 ^ 8
-  pub last : Four (s .last)
+  pub last : Four (s .attempt .last)
 
 phase-most : (f : Phase) → leb (phaseByte f) 5 ≡ true
 phase-most First = refl
 phase-most (Chunk at) = refl
-phase-most Close = refl
-phase-most CloseRefused = refl
+phase-most (Close true) = refl
+phase-most (Close false) = refl
 phase-most Ack = refl
 phase-most Ended = refl
 
 start-intact : (f : Phase) → eqb (phaseByte f) 1 || eqb (valueOf (bytesOf 4 (chunkStart f))) 0 ≡ true
 start-intact First = refl
 start-intact (Chunk at) = refl
-start-intact Close = refl
-start-intact CloseRefused = refl
+start-intact (Close true) = refl
+start-intact (Close false) = refl
 start-intact Ack = refl
 start-intact Ended = refl
 
@@ -49,8 +49,8 @@ phase-back : (f : Phase) → chunkStart f < 256 ^ 4 → phaseOf (phaseByte f) (v
 unfolding phaseOf
 phase-back First h = refl
 phase-back (Chunk at) h = ap Chunk (value-back 4 at h)
-phase-back Close h = refl
-phase-back CloseRefused h = refl
+phase-back (Close true) h = refl
+phase-back (Close false) h = refl
 phase-back Ack h = refl
 phase-back Ended h = refl
 
@@ -63,14 +63,12 @@ state-intact s =
 
 same-state : (s : Collection) {create : Bool} {chunk attempts room attempt count : ℕ} {caps : Caps} {phase : Phase} {last : List ℕ}
     → create ≡ s .plan .create → chunk ≡ s .plan .chunk → attempts ≡ s .plan .attempts → room ≡ s .plan .room → caps ≡ s .plan .caps
-    → phase ≡ s .phase → attempt ≡ s .attempt → count ≡ s .count → last ≡ s .last
+    → phase ≡ s .phase → attempt ≡ s .attempt .number → count ≡ s .count → last ≡ s .attempt .last
     → record {
       plan = record { page = s .plan .page; create = create; area = s .plan .area; chunk = chunk; attempts = attempts; room = room; caps = caps };
       phase = phase;
-      attempt = attempt;
+      attempt = record { number = attempt; generation = s .attempt .generation; last = last };
       count = count;
-      generation = s .generation;
-      last = last;
     }
     ≡ s
 same-state s c k n r p f a o l = rw (c, k, n, r, p, f, a, o, l)
@@ -85,9 +83,9 @@ state-back s t =
     (value-back 8 (s .plan .room) (t .room))
     (caps-back (s .plan .caps))
     (phase-back (s .phase) (t .start))
-    (value-back 4 (s .attempt) (t .attempt))
+    (value-back 4 (s .attempt .number) (t .attempt))
     (value-back 8 (s .count) (t .count))
-    (last-back (s .last) (t .last))
+    (last-back (s .attempt .last) (t .last))
 
 -- what holds of each phase's number holds of a number of at most 5
 phases : (P : ℕ → Type 0) → P 0 → P 1 → P 2 → P 3 → P 4 → P 5 → (n : ℕ) → leb n 5 ≡ true → P n

@@ -2,7 +2,7 @@
 -- Assumes nothing.
 use Prim.Native.Nat.{ℕ}
 use mathlib.Core.List.{List, [], _∷_, _++_}
-use mathlib.Core.Bool.{Bool, _||_}
+use mathlib.Core.Bool.{Bool, true, false, _||_}
 use lib.ListN.{getD}
 use lib.Dec.{leb, eqb}
 use Rattle.choices.specs.Choice.{pick}
@@ -10,12 +10,13 @@ use Rattle.choices.specs.Tests.{holds}
 use Rattle.littleendian.specs.Numbers.{bytesOf, valueAt, lastBytes, lastAt}
 use Rattle.words.specs.declared.Words.{Words}
 use Rattle.words.specs.Words.{noWords}
-use Rattle.course.specs.declared.Plan.{Plan}
-use Rattle.course.specs.declared.Phase.{Phase}
-use Rattle.course.specs.declared.Phase.the-variants.{First, Chunk, Close, CloseRefused, Ack, Ended}
+use Rattle.plans.specs.declared.Plan.{Plan}
+use Rattle.plans.specs.declared.Phase.{Phase}
+use Rattle.plans.specs.declared.Phase.the-variants.{First, Chunk, Close, Ack, Ended}
+use Rattle.judgement.specs.Endings.{numberOf, newerOf}
 use Rattle.collection.specs.declared.Collection.{Collection}
 use Rattle.collection.specs.declared.Next.{Next}
-use Rattle.collection.specs.declared.Next.the-variants.{Send, Ended as Ends, Refused}
+use Rattle.collection.specs.declared.Next.the-variants.{Send, End as Ends, Refuse}
 use Rattle.shared_layouts.specs.Layouts.{one, mostCaps, capsByte, capsOf}
 
 -- ---- struct bumbazeel_state
@@ -24,8 +25,7 @@ use Rattle.shared_layouts.specs.Layouts.{one, mostCaps, capsByte, capsOf}
 abbrev pub phaseByte : Phase → ℕ
 phaseByte First = 0
 phaseByte (Chunk at) = 1
-phaseByte Close = 2
-phaseByte CloseRefused = 3
+phaseByte (Close after) = pick after 3 2
 phaseByte Ack = 4
 phaseByte Ended = 5
 
@@ -33,15 +33,14 @@ phaseByte Ended = 5
 abbrev pub chunkStart : Phase → ℕ
 chunkStart First = 0
 chunkStart (Chunk at) = at
-chunkStart Close = 0
-chunkStart CloseRefused = 0
+chunkStart (Close after) = 0
 chunkStart Ack = 0
 chunkStart Ended = 0
 
 -- the phase of a number and a block; a number over 5 is as 5
 unfoldable pub phaseOf : ℕ → ℕ → Phase
 phaseOf n at =
-    pick (eqb n 0) First (pick (eqb n 1) (Chunk at) (pick (eqb n 2) Close (pick (eqb n 3) CloseRefused (pick (eqb n 4) Ack Ended))))
+    pick (eqb n 0) First (pick (eqb n 1) (Chunk at) (pick (eqb n 2) (Close false) (pick (eqb n 3) (Close true) (pick (eqb n 4) Ack Ended))))
 
 -- its first eight bytes
 abbrev pub stateMarks : Collection → List ℕ
@@ -51,7 +50,7 @@ stateMarks s =
     ∷ one (s .plan .create)
     ∷ s .plan .area
     ∷ capsByte (s .plan .caps)
-    ∷ s .generation
+    ∷ s .attempt .generation
     ∷ 0
     ∷ 0
     ∷ []
@@ -62,11 +61,11 @@ stateBytes s =
     stateMarks s
     ++ bytesOf 4 (s .plan .chunk)  -- 8
     ++ bytesOf 4 (s .plan .attempts)  -- 12
-    ++ bytesOf 4 (s .attempt)  -- 16
+    ++ bytesOf 4 (s .attempt .number)  -- 16
     ++ bytesOf 4 (chunkStart (s .phase))  -- 20
     ++ bytesOf 8 (s .plan .room)  -- 24
     ++ bytesOf 8 (s .count)  -- 32
-    ++ lastBytes (s .last)  -- 40
+    ++ lastBytes (s .attempt .last)  -- 40
 
 -- the plan in a state's bytes
 abbrev pub planAt : List ℕ → Plan
@@ -85,10 +84,8 @@ unfoldable pub stateAt : List ℕ → Collection
 stateAt b = record {
   plan = planAt b;
   phase = phaseOf (getD b 0 0) (valueAt 4 20 b);
-  attempt = valueAt 4 16 b;
+  attempt = record { number = valueAt 4 16 b; generation = getD b 5 0; last = lastAt 40 b };
   count = valueAt 8 32 b;
-  generation = getD b 5 0;
-  last = lastAt 40 b;
 }
 
 -- a state that some collection can have: a phase's number, create 0 or 1, capabilities of five bits, the zero bytes, and a block with a
@@ -130,5 +127,5 @@ nextParts kind answer newer w count =
 -- what follows, as 32 bytes
 unfoldable pub nextBytes : Next → List ℕ
 nextBytes (Send w) = nextParts send 0 0 w 0
-nextBytes (Ends e) = nextParts ending (e .answer) (one (e .newer)) noWords (e .count)
-nextBytes (Refused answer) = nextParts refusal answer 0 noWords 0
+nextBytes (Ends e) = nextParts ending (numberOf (e .ending)) (one (newerOf (e .ending))) noWords (e .count)
+nextBytes (Refuse answer) = nextParts refusal answer 0 noWords 0

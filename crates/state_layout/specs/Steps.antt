@@ -12,8 +12,8 @@ use Rattle.littleendian.specs.Numbers.{bytesOf, valueAt, lastBytes, lastAt}
 use Rattle.littleendian.specs.Puts.{then}
 use Rattle.pages.specs.declared.Caps.{Caps}
 use Rattle.words.specs.declared.Words.{Words}
-use Rattle.course.specs.declared.Plan.{Plan}
-use Rattle.course.specs.declared.Phase.{Phase}
+use Rattle.plans.specs.declared.Plan.{Plan}
+use Rattle.plans.specs.declared.Phase.{Phase}
 use Rattle.collection.specs.declared.Collection.{Collection}
 use Rattle.shared_layouts.specs.Layouts.{mostCaps, capsOf}
 use Rattle.state_layout.specs.Layout.{chunkStart, phaseOf, stateMarks, stateBytes, planAt, stateAt, stateIntact, nextParts}
@@ -35,16 +35,16 @@ next-is kind answer newer w count e1 e2 e3 e4 e5 e6 =
 -- a state
 pub state-is : (s : Collection) {start : ℕ} {m o p q r t u v w : List ℕ} → m ≡ stateMarks s → start ≡ chunkStart (s .phase)
     → o ≡ putAt (zeros 56) 0 m → p ≡ putAt o 8 (bytesOf 4 (s .plan .chunk)) → q ≡ putAt p 12 (bytesOf 4 (s .plan .attempts))
-    → r ≡ putAt q 16 (bytesOf 4 (s .attempt)) → t ≡ putAt r 20 (bytesOf 4 start) → u ≡ putAt t 24 (bytesOf 8 (s .plan .room))
-    → v ≡ putAt u 32 (bytesOf 8 (s .count)) → w ≡ putAt v 40 (lastBytes (s .last))
+    → r ≡ putAt q 16 (bytesOf 4 (s .attempt .number)) → t ≡ putAt r 20 (bytesOf 4 start) → u ≡ putAt t 24 (bytesOf 8 (s .plan .room))
+    → v ≡ putAt u 32 (bytesOf 8 (s .count)) → w ≡ putAt v 40 (lastBytes (s .attempt .last))
     → w ≡ stateBytes s
 unfolding putAt stateBytes
 state-is s {r = r} {t = t} em es e1 e2 e3 e4 e5 e6 e7 e8 =
-    then 40 (lastBytes (s .last))
+    then 40 (lastBytes (s .attempt .last))
     (then 32 (bytesOf 8 (s .count))
     (then 24 (bytesOf 8 (s .plan .room))
     (then 20 (bytesOf 4 (chunkStart (s .phase)))
-    (then 16 (bytesOf 4 (s .attempt))
+    (then 16 (bytesOf 4 (s .attempt .number))
     (then 12 (bytesOf 4 (s .plan .attempts))
     (then 8 (bytesOf 4 (s .plan .chunk)) (e1 ∙ ap (λ (l : List ℕ). putAt (zeros 56) 0 l) em) e2)
     e3)
@@ -64,7 +64,7 @@ plan-is b p c n r = rw (p, c, n, r)
 
 pub read-is : (b : List ℕ) {plan : Plan} {phase : Phase} {start attempt count : ℕ} {last : List ℕ} → plan ≡ planAt b
     → start ≡ valueAt 4 20 b → phase ≡ phaseOf (getD b 0 0) start → attempt ≡ valueAt 4 16 b → count ≡ valueAt 8 32 b → last ≡ lastAt 40 b
-    → record { plan = plan; phase = phase; attempt = attempt; count = count; generation = getD b 5 0; last = last } ≡ stateAt b
+    → record { plan = plan; phase = phase; attempt = record { number = attempt; generation = getD b 5 0; last = last }; count = count } ≡ stateAt b
 unfolding stateAt
 read-is b p s f a c l = rw (p, f, s, a, c, l)
 

@@ -1,16 +1,16 @@
 // A collection's state as the bytes of struct bumbazeel_state, written, read, and not damaged; and what follows a setup or a step as those
 // of struct bumbazeel_next.
 //
-// It rests on choices, copies, littleendian, words, course, collection and shared_layouts. It promises that each is written to and read
+// It rests on choices, copies, littleendian, words, plans, judgement, collection and shared_layouts. It promises that each is written to and read
 // from exactly the bytes of specs/Layout.antt, whatever they are, and that what is written reads back to what it was, and intact bytes to
 // themselves (specs/Back.antt).
 use collection::Collection;
 use collection::Next;
-use course::Phase;
-use course::Plan;
+use judgement::Attempt;
+use plans::Phase;
+use plans::Plan;
 use words::Words;
 ghost use mathlib.Core.Path.{_≡_};
-ghost use Rattle.words.specs.Words.{noWords};
 ghost use Rattle.state_layout.specs.Layout.{phaseByte, chunkStart, phaseOf, stateMarks, stateBytes, planAt, stateAt, stateIntact, nextParts, nextBytes};
 
 // What follows is a command to send, an ending, a refusal.
@@ -28,8 +28,7 @@ fn phase_byte(phase: Phase) -> u8
     match phase {
         Phase::First => 0,
         Phase::Chunk(_) => 1,
-        Phase::Close => 2,
-        Phase::CloseRefused => 3,
+        Phase::Close(after) => choices::pick_u8(after, 3, 2),
         Phase::Ack => 4,
         Phase::Ended => 5,
     }
@@ -41,8 +40,7 @@ fn chunk_start(phase: Phase) -> u32
     match phase {
         Phase::First => 0,
         Phase::Chunk(at) => at,
-        Phase::Close => 0,
-        Phase::CloseRefused => 0,
+        Phase::Close(_) => 0,
         Phase::Ack => 0,
         Phase::Ended => 0,
     }
@@ -54,8 +52,8 @@ fn phase_of(n: u8, at: u32) -> Phase
     match n {
         0 => Phase::First,
         1 => Phase::Chunk(at),
-        2 => Phase::Close,
-        3 => Phase::CloseRefused,
+        2 => Phase::Close(false),
+        3 => Phase::Close(true),
         4 => Phase::Ack,
         _ => Phase::Ended,
     }
@@ -66,6 +64,7 @@ fn state_marks(s: Collection) -> [u8; 8]
 {
     let plan = s.plan;
     let phase = s.phase;
+    let attempt = s.attempt;
     let caps = plan.caps;
     let number = phase_byte(phase);
     let create = shared_layouts::bit(plan.create, 1);
@@ -76,7 +75,7 @@ fn state_marks(s: Collection) -> [u8; 8]
         create,
         plan.area,
         can,
-        s.generation,
+        attempt.generation,
         0,
         0,
     ]
@@ -88,12 +87,13 @@ pub fn write_state(s: Collection) -> [u8; 56]
 {
     let plan = s.plan;
     let phase = s.phase;
-    let last = s.last;
+    let attempt = s.attempt;
+    let last = attempt.last;
     let mut out = [0u8; 56];
     copies::put(&state_marks(s), &mut out, 0);
     littleendian::put4(&mut out, 8, plan.chunk);
     littleendian::put4(&mut out, 12, plan.attempts);
-    littleendian::put4(&mut out, 16, s.attempt);
+    littleendian::put4(&mut out, 16, attempt.number);
     littleendian::put4(&mut out, 20, chunk_start(phase));
     littleendian::put8(&mut out, 24, plan.room as u64);
     littleendian::put8(&mut out, 32, s.count);
@@ -123,13 +123,16 @@ pub fn read_state(b: &[u8; 56]) -> Collection
     let plan = plan_at(b);
     let phase = phase_of(b[0], littleendian::value4_at(b, 20));
     let last = littleendian::last_at(b, 40);
+    let attempt = Attempt {
+        number: littleendian::value4_at(b, 16),
+        generation: b[5],
+        last,
+    };
     Collection {
         plan,
         phase,
-        attempt: littleendian::value4_at(b, 16),
+        attempt,
         count: littleendian::value8_at(b, 32),
-        generation: b[5],
-        last,
     }
 }
 
@@ -163,31 +166,22 @@ fn next_parts(kind: u8, answer: u8, newer: u8, w: Words, count: u64) -> [u8; 32]
     out
 }
 
-fn no_words() -> Words
-    ensures { λ r. ⌜ r ≡ noWords ⌝ }
-{
-    Words {
-        cdw10: 0,
-        cdw11: 0,
-        cdw12: 0,
-        cdw13: 0,
-        cdw14: 0,
-    }
-}
-
 // Its bytes.
 pub fn write_next(next: Next) -> [u8; 32]
     ensures { λ x. ⌜ x ≡ nextBytes next ⌝ }
 {
     match next {
         Next::Send(w) => next_parts(SEND, 0, 0, w, 0),
-        Next::Ended(e) => next_parts(
-            ENDED,
-            e.answer,
-            shared_layouts::bit(e.newer, 1),
-            no_words(),
-            e.count,
-        ),
-        Next::Refused(answer) => next_parts(REFUSED, answer, 0, no_words(), 0),
+        Next::End(e) => {
+            let ending = e.ending;
+            next_parts(
+                ENDED,
+                judgement::number(ending),
+                shared_layouts::bit(judgement::newer(ending), 1),
+                words::no_words(),
+                e.count,
+            )
+        }
+        Next::Refuse(answer) => next_parts(REFUSED, answer, 0, words::no_words(), 0),
     }
 }

@@ -154,7 +154,7 @@ fn capture(r: Record, host: &[u8; 4608], controller: &mut [u8; 4608], a: [u32; 4
 fn on_host() {
     let mut host = [0; 4608];
     let controller = [0; 4608];
-    say(b"07h: create with candidate (2,2,5,9) on a own of three areas\n");
+    say(b"07h: create with candidate (2,2,5,9) on a drive of three areas\n");
     let r = send(
         fresh(false),
         &mut host,

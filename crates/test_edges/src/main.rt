@@ -5,10 +5,10 @@
 use collection::Collection;
 use collection::Next;
 use collection::Stepped;
-use course::Phase;
-use course::Plan;
 use libc::STDOUT_FILENO;
 use pages::Caps;
+use plans::Phase;
+use plans::Plan;
 use records::Identity;
 use records::Record;
 use words::Words;
@@ -146,8 +146,7 @@ fn name(phase: Phase) {
             say(b" c");
             decimal(at as u64);
         }
-        Phase::Close => say(b" h"),
-        Phase::CloseRefused => say(b" h"),
+        Phase::Close(_) => say(b" h"),
         Phase::Ack => say(b" A"),
         Phase::Ended => (),
     }
@@ -158,8 +157,7 @@ fn is_check(phase: Phase) -> bool {
     match phase {
         Phase::First => true,
         Phase::Chunk(_) => false,
-        Phase::Close => true,
-        Phase::CloseRefused => true,
+        Phase::Close(_) => true,
         Phase::Ack => false,
         Phase::Ended => false,
     }
@@ -177,17 +175,18 @@ fn keep_area(page: u8, r: Record, store: &[u8], want: &mut [u8; 2048]) {
 fn said(next: Next) -> u8 {
     match next {
         Next::Send(_) => 255,
-        Next::Ended(e) => {
+        Next::End(e) => {
+            let ending = e.ending;
             say(b" | ");
-            decimal(e.answer as u64);
-            if e.newer {
+            decimal(judgement::number(ending) as u64);
+            if judgement::newer(ending) {
                 say(b" newer");
             }
             say(b" | ");
             decimal(e.count);
-            e.answer
+            judgement::number(ending)
         }
-        Next::Refused(_) => 254,
+        Next::Refuse(_) => 254,
     }
 }
 

@@ -4,11 +4,12 @@
 use collection::Collection;
 use collection::Next;
 use collection::Stepped;
-use course::Phase;
-use course::Plan;
 use header::Fields;
+use judgement::Attempt;
 use libc::STDOUT_FILENO;
 use pages::Caps;
+use plans::Phase;
+use plans::Plan;
 
 fn say(text: &[u8]) {
     io::write_all(STDOUT_FILENO, text);
@@ -75,16 +76,17 @@ fn copy_is(copy: &[u8]) {
 fn show_next(next: Next) {
     match next {
         Next::Send(_) => say(b"sent"),
-        Next::Ended(e) => {
+        Next::End(e) => {
+            let ending = e.ending;
             say(b"ended ");
-            decimal(e.answer as u64);
-            if e.newer {
+            decimal(judgement::number(ending) as u64);
+            if judgement::newer(ending) {
                 say(b" newer");
             }
             say(b", commands ");
             decimal(e.count);
         }
-        Next::Refused(answer) => {
+        Next::Refuse(answer) => {
             say(b"refused ");
             decimal(answer as u64);
         }
@@ -285,16 +287,18 @@ fn third(phase: Phase) -> Collection {
     Collection {
         plan: plan(0x08, 2),
         phase,
-        attempt: 3,
+        attempt: Attempt {
+            number: 3,
+            generation: 5,
+            last,
+        },
         count: 4,
-        generation: 5,
-        last,
     }
 }
 
-fn forged() {
+fn made_by_hand() {
     let mut copy = [9u8; 2048];
-    let close = third(Phase::Close);
+    let close = third(Phase::Close(false));
     let over = third(Phase::Ended);
     let data = [8u8; 511];
     tried(
@@ -313,5 +317,5 @@ fn main() {
     closings();
     acknowledgements();
     unfit();
-    forged();
+    made_by_hand();
 }

@@ -3,10 +3,10 @@
 use collection::Collection;
 use collection::Next;
 use collection::Stepped;
-use course::Plan;
 use header::Fields;
 use libc::STDOUT_FILENO;
 use pages::Caps;
+use plans::Plan;
 use words::Words;
 
 fn say(text: &[u8]) {
@@ -55,14 +55,15 @@ fn show(x: Stepped) -> Collection {
     let next = x.next;
     match next {
         Next::Send(w) => command(w),
-        Next::Ended(e) => {
+        Next::End(e) => {
+            let ending = e.ending;
             say(b"ending ");
-            io::print_decimal(STDOUT_FILENO, e.answer as u64);
+            io::print_decimal(STDOUT_FILENO, judgement::number(ending) as u64);
             say(b", commands ");
             io::print_decimal(STDOUT_FILENO, e.count);
             say(b"\n");
         }
-        Next::Refused(answer) => {
+        Next::Refuse(answer) => {
             say(b"refused ");
             io::print_decimal(STDOUT_FILENO, answer as u64);
             say(b"\n");

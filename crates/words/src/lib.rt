@@ -106,7 +106,8 @@ fn bit(t: bool, value: u32) -> u32
     if t { value } else { 0 }
 }
 
-fn no_words() -> Words
+// Five zero words.
+pub fn no_words() -> Words
     ensures { λ r. ⌜ r ≡ noWords ⌝ }
 {
     Words {

@@ -4,7 +4,7 @@ use mathlib.Core.Path.{ap, _∙_}
 use borrow.Author.Needs.{needs}
 use Rattle.collection.specs.Collection.{setupOf}
 use Rattle.pages.specs.declared.Caps.{Caps}
-use Rattle.course.specs.declared.Plan.{Plan}
+use Rattle.plans.specs.declared.Plan.{Plan}
 use Rattle.host_boundary.specs.Boundary.{flagOf}
 use Rattle.host_boundary.specs.Steps.{setup-is}
 use Rattle.host_boundary.proofs.bumbazeel_setup.Statement.{statement}

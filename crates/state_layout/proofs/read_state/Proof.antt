@@ -23,11 +23,11 @@ last-at-requires c κs = search needs
 value4-at-requires-2 : tie.Need-value4-at-requires-2
 value4-at-requires-2 c κs = search needs
 
+element-copy-out-t8 : tie.Need-element-copy-out-t8
+element-copy-out-t8 c = search needs
+
 value8-at-requires : tie.Need-value8-at-requires
 value8-at-requires c κs = search needs
-
-element-copy-out-t7 : tie.Need-element-copy-out-t7
-element-copy-out-t7 c = search needs
 
 returns : tie.Need-returns
 returns c =
@@ -38,7 +38,7 @@ returns c =
     let back11 = back8 .before .before .before in
     let back12 = back11 .before in
     read-is (back12 .args .b .now) (back11 .plan-at .ensures) (back8 .value4-at .ensures) (back7 .phase-of .ensures)
-    (back3 .value4-at2 .ensures) (c .before .value8-at .ensures) (back5 .last-at .ensures)
+    (back3 .value4-at2 .ensures) (c .value8-at .ensures) (back5 .last-at .ensures)
 
 pub read-state-spec : {M : Type 1} → statement M
 read-state-spec =
@@ -50,6 +50,6 @@ read-state-spec =
     phase-of-requires
     last-at-requires
     value4-at-requires-2
+    element-copy-out-t8
     value8-at-requires
-    element-copy-out-t7
     returns)

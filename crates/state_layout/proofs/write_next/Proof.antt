@@ -1,4 +1,4 @@
--- `state_layout::write_next` meets its contract: each arm gives the definition's parts.
+-- `state_layout::write_next` meets its contract: the arms are the definition's clauses.
 -- Assumes nothing.
 use mathlib.Core.Path.{_∙_}
 use borrow.Author.Needs.{needs}
@@ -14,6 +14,12 @@ next-parts-requires c κs = search needs
 
 enum-known-next-2 : tie.Need-enum-known-next-2
 enum-known-next-2 c = search needs
+
+number-requires : tie.Need-number-requires
+number-requires c κs = search needs
+
+newer-requires : tie.Need-newer-requires
+newer-requires c κs = search needs
 
 bit-requires : tie.Need-bit-requires
 bit-requires c κs = search needs
@@ -39,9 +45,7 @@ returns c = c .next-parts .ensures ∙ rw (c .before .before .next .given .1)
 
 returns-2 : tie.Need-returns-2
 unfolding nextBytes
-returns-2 c =
-    let back4 = c .before .before .before .before in
-    c .next-parts2 .ensures ∙ rw (c .before .before .bit .ensures .0, c .before .no-words .ensures, back4 .next2 .given .1)
+returns-2 c = c .next-parts2 .ensures ∙ rw (c .before .no-words .ensures, c .before .before .bit .ensures .0, c .before .before .before .newer .ensures, c .before .before .before .before .number .ensures, c .before .before .before .before .before .before .next2 .given .1)
 
 returns-3 : tie.Need-returns-3
 unfolding nextBytes
@@ -54,6 +58,8 @@ write-next-spec =
     enum-known-next
     next-parts-requires
     enum-known-next-2
+    number-requires
+    newer-requires
     bit-requires
     no-words-requires
     next-parts-requires-2

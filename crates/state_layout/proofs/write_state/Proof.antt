@@ -73,8 +73,8 @@ returns c =
     let back20 = back17 .before .before .before in
     let back23 = back20 .before .before .before in
     let back26 = back23 .before .before .before in
-    let back29 = back26 .before .before .before in
-    state-is (back29 .args .s) (back26 .state-marks .ensures) (back11 .chunk-start .ensures) (back23 .put .ensures)
+    let back30 = back26 .before .before .before .before in
+    state-is (back30 .args .s) (back26 .state-marks .ensures) (back11 .chunk-start .ensures) (back23 .put .ensures)
     (back20 .put4 .ensures) (back17 .put42 .ensures) (back14 .put43 .ensures) (back10 .put44 .ensures)
     (back7 .put8 .ensures) (back4 .put82 .ensures) (c .before .put-last .ensures)
 

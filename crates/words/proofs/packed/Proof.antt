@@ -39,7 +39,7 @@ mul-t20 : tie.Need-mul-t20
 mul-t20 c = search needs
 
 returns : tie.Need-returns
-returns c = cc
+returns c = rw (c .bit2 .ensures .0, c .before .bit .ensures .0)
 
 pub packed-spec : {M : Type 1} → statement M
 packed-spec =

@@ -23,7 +23,7 @@ offset-of-requires : tie.Need-offset-of-requires
 offset-of-requires c κs = search needs
 
 returns : tie.Need-returns
-returns c = cc
+returns c = rw (c .before .offset-of .ensures, c .before .before .pick-usize .ensures, c .before .before .before .short-bytes .ensures, c .before .before .before .before .long-bytes .ensures)
 
 pub read-spec : {M : Type 1} → statement M
 read-spec =

@@ -1,126 +1,64 @@
--- `collection::Collection::act` meets its contract: the arms are the definition's clauses; what the state and the move keep
--- bounds each number.
+-- `collection::Collection::act` meets its contract: an ending is the definition's, and every other move sends.
 -- Assumes nothing.
-use mathlib.Core.Path.{_∙_}
+use Prim.Native.Nat.{_+_}
+use mathlib.Core.Path.{_≡_, refl, _∙_}
+use mathlib.Core.List.{[], _∷_}
 use borrow.Author.Needs.{needs}
-use Rattle.collection.specs.Collection.{actOf}
+use denote.Enum.Declared.{tagOf}
+use types.Run.{OneOf, miss}
+use Rattle.judgement.proofs.Move.{the-type}
+use Rattle.judgement.specs.declared.Move.{Move}
+use Rattle.judgement.specs.declared.Move.the-variants.{End, Open, More, Skip, Acknowledge}
+use Rattle.turns.specs.declared.Turn.{Turn}
+use Rattle.collection.specs.declared.Collection.{Collection}
+use Rattle.collection.specs.Collection.{turnedTo, sends, actOf}
 use Rattle.collection.proofs.Collection.act.Statement.{statement}
 use Rattle.collection.proofs.Collection.act.Tie as tie
+
+-- a move that does not end sends a command
+going : (s : Collection) (m : Move) (t : Turn) → OneOf (1 ∷ 2 ∷ 3 ∷ 4 ∷ []) (tagOf the-type m) → sends (turnedTo s t (s .count + 1)) ≡ actOf s m t
+unfolding actOf
+going s (End e next) t k = absurd (miss (1 ∷ 2 ∷ 3 ∷ 4 ∷ []) 0 tt k)
+going s (Open next) t k = refl
+going s (More at) t k = refl
+going s Skip t k = refl
+going s Acknowledge t k = refl
 
 add-count : tie.Need-add-count
 add-count c = search needs
 
-area-bytes-requires : tie.Need-area-bytes-requires
-area-bytes-requires c κs = search needs
-
 enum-known-m : tie.Need-enum-known-m
 enum-known-m c = search needs
+
+turned-requires : tie.Need-turned-requires
+turned-requires c κs = search needs
 
 over-requires : tie.Need-over-requires
 over-requires c κs = search needs
 
-enum-known-m-2 : tie.Need-enum-known-m-2
-enum-known-m-2 c = search needs
-
-opened-requires : tie.Need-opened-requires
-opened-requires c κs = search needs
+turned-requires-2 : tie.Need-turned-requires-2
+turned-requires-2 c κs = search needs
 
 sent-requires : tie.Need-sent-requires
 sent-requires c κs = search needs
 
-enum-known-m-3 : tie.Need-enum-known-m-3
-enum-known-m-3 c = search needs
-
-following-requires : tie.Need-following-requires
-following-requires c κs = search needs
-
-in-phase-requires : tie.Need-in-phase-requires
-in-phase-requires c κs = search needs
-
-place-of-requires : tie.Need-place-of-requires
-place-of-requires c κs =
-    rw (c .before .before .before .m3 .given .1) at (c .before .before .before .before .before .before .before .before .pre .1)
-
-sent-requires-2 : tie.Need-sent-requires-2
-sent-requires-2 c κs = search needs
-
-enum-told : tie.Need-enum-told
-enum-told c = search needs
-
-in-phase-requires-2 : tie.Need-in-phase-requires-2
-in-phase-requires-2 c κs = search needs
-
-sent-requires-3 : tie.Need-sent-requires-3
-sent-requires-3 c κs = search needs
-
-enum-told-2 : tie.Need-enum-told-2
-enum-told-2 c = search needs
-
-in-phase-requires-3 : tie.Need-in-phase-requires-3
-in-phase-requires-3 c κs = search needs
-
-sent-requires-4 : tie.Need-sent-requires-4
-sent-requires-4 c κs = search needs
-
-enum-known-m-4 : tie.Need-enum-known-m-4
-enum-known-m-4 c = search needs
-
-over-requires-2 : tie.Need-over-requires-2
-over-requires-2 c κs = search needs
-
 returns : tie.Need-returns
 unfolding actOf
-returns c = c .over .ensures ∙ rw (c .before .before .m .given .1)
+returns c = c .over .ensures ∙ rw (c .before .turned .ensures, c .before .before .before .m .given .1)
 
 returns-2 : tie.Need-returns-2
 unfolding actOf
-returns-2 c = c .sent .ensures ∙ rw (c .before .opened .ensures, c .before .before .before .m2 .given .1)
-
-returns-3 : tie.Need-returns-3
-unfolding actOf
-returns-3 c =
-    c .sent2 .ensures
-    ∙ rw (c .before .place-of .ensures, c .before .before .in-phase .ensures, c .before .before .before .following .ensures, c .before .before .before .before .before .m3 .given .1)
-
-returns-4 : tie.Need-returns-4
-unfolding actOf
-returns-4 c = c .sent3 .ensures ∙ rw (c .before .in-phase2 .ensures, c .before .before .enum-told .given .1)
-
-returns-5 : tie.Need-returns-5
-unfolding actOf
-returns-5 c = c .sent4 .ensures ∙ rw (c .before .in-phase3 .ensures, c .before .before .enum-told2 .given .1)
-
-returns-6 : tie.Need-returns-6
-unfolding actOf
-returns-6 c = c .over2 .ensures ∙ rw (c .before .before .m4 .given .1, c .before .before .before .before .area-bytes .ensures)
+returns-2 c = c .sent .ensures ∙ rw (c .before .turned2 .ensures) (let a = c .before .before .before .args in going (a .self) (a .m) (a .t) (c .before .before .match .keys2))
 
 pub act-spec : {M : Type 1} → statement M
 act-spec =
     tie.close
     (tie.spec
     add-count
-    area-bytes-requires
     enum-known-m
+    turned-requires
     over-requires
-    enum-known-m-2
-    opened-requires
+    turned-requires-2
     sent-requires
-    enum-known-m-3
-    following-requires
-    in-phase-requires
-    place-of-requires
-    sent-requires-2
-    enum-told
-    in-phase-requires-2
-    sent-requires-3
-    enum-told-2
-    in-phase-requires-3
-    sent-requires-4
-    enum-known-m-4
-    over-requires-2
     returns
-    returns-2
-    returns-3
-    returns-4
-    returns-5
-    returns-6)
+    returns-2)

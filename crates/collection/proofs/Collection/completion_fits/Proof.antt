@@ -2,18 +2,19 @@
 -- Assumes nothing.
 use borrow.Author.Needs.{needs}
 use Rattle.collection.specs.Collection.{completionFits, expectedOf}
+use Rattle.plans.specs.Plans.{awaitedBy}
 use Rattle.collection.proofs.Collection.completion_fits.Statement.{statement}
 use Rattle.collection.proofs.Collection.completion_fits.Tie as tie
 
-expected-requires : tie.Need-expected-requires
-expected-requires c κs = search needs
+due-requires : tie.Need-due-requires
+due-requires c κs = search needs
 
 pick-usize-requires : tie.Need-pick-usize-requires
 pick-usize-requires c κs = search needs
 
 returns : tie.Need-returns
-unfolding completionFits expectedOf
-returns c = cc
+unfolding completionFits expectedOf awaitedBy
+returns c = rw (c .pick-usize .ensures, c .before .before .due .ensures)
 
 pub completion-fits-spec : {M : Type 1} → statement M
-completion-fits-spec = tie.close (tie.spec expected-requires pick-usize-requires returns)
+completion-fits-spec = tie.close (tie.spec due-requires pick-usize-requires returns)

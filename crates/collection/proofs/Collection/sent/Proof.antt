@@ -8,7 +8,7 @@ awaited-requires : tie.Need-awaited-requires
 awaited-requires c κs = search needs
 
 returns : tie.Need-returns
-returns c = cc
+returns c = rw (c .awaited .ensures)
 
 pub sent-spec : {M : Type 1} → statement M
 sent-spec = tie.close (tie.spec awaited-requires returns)

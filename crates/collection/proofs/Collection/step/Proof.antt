@@ -12,20 +12,15 @@ look-requires c κs = search needs
 decide-requires : tie.Need-decide-requires
 decide-requires c κs = search needs
 
-move-bytes-requires : tie.Need-move-bytes-requires
-move-bytes-requires c κs = search needs
+settle-requires : tie.Need-settle-requires
+settle-requires c κs = search needs
 
 same-length : tie.Need-same-length
 same-length c = search needs
 
 returns : tie.Need-returns
 unfolding stepOf copyAfter lookOf
-returns c = (
-  rw (c .before .before .before .before .before .decide .ensures, c .before .before .before .before .before .before .look .ensures),
-  c .before .before .before .move-bytes .ensures
-      ∙ rw (c .before .before .before .before .before .decide .ensures, c .before .before .before .before .before .before .look .ensures),
-)
+returns c = (rw (c .before .before .before .before .before .decide .ensures, c .before .before .before .before .before .before .look .ensures), c .before .before .before .settle .ensures ∙ rw (c .before .before .before .before .before .decide .ensures, c .before .before .before .before .before .before .look .ensures))
 
 pub step-spec : {M : Type 1} → statement M
-step-spec =
-    tie.close (tie.spec look-requires decide-requires move-bytes-requires same-length returns)
+step-spec = tie.close (tie.spec look-requires decide-requires settle-requires same-length returns)

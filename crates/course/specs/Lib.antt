@@ -1,3 +1,0 @@
-pub mod Course
-pub mod Laws
-pub mod Awaited

@@ -1,0 +1,28 @@
+-- `judgement::first_of` meets its contract: each branch takes the row whose test holds.
+-- Assumes nothing.
+use Rattle.judgement.specs.Judgement.{firstOrder}
+use Rattle.judgement.proofs.first_of.Statement.{statement}
+use Rattle.judgement.proofs.first_of.Tie as tie
+
+returns : tie.Need-returns
+unfolding firstOrder
+returns c = rw (c .if1 .taken)
+
+returns-2 : tie.Need-returns-2
+unfolding firstOrder
+returns-2 c = rw (c .before .if1 .left, c .if2 .taken)
+
+returns-3 : tie.Need-returns-3
+unfolding firstOrder
+returns-3 c = rw (c .before .before .if1 .left, c .before .if2 .left, c .if3 .taken)
+
+returns-4 : tie.Need-returns-4
+unfolding firstOrder
+returns-4 c = rw (c .before .before .before .if1 .left, c .before .before .if2 .left, c .before .if3 .left, c .if4 .taken)
+
+returns-5 : tie.Need-returns-5
+unfolding firstOrder
+returns-5 c = rw (c .before .before .before .if1 .left, c .before .before .if2 .left, c .before .if3 .left, c .if4 .left)
+
+pub first-of-spec : {M : Type 1} → statement M
+first-of-spec = tie.close (tie.spec returns returns-2 returns-3 returns-4 returns-5)

@@ -1,0 +1,19 @@
+-- `judgement::tests_of` meets its contract: each test is the definition's.
+-- Assumes nothing.
+use borrow.Author.Needs.{needs}
+use Rattle.judgement.specs.Judgement.{testsOf}
+use Rattle.judgement.proofs.tests_of.Statement.{statement}
+use Rattle.judgement.proofs.tests_of.Tie as tie
+
+faultless-requires : tie.Need-faultless-requires
+faultless-requires c κs = search needs
+
+fits-room-requires : tie.Need-fits-room-requires
+fits-room-requires c κs = search needs
+
+returns : tie.Need-returns
+unfolding testsOf
+returns c = rw (c .before .before .fits-room .ensures, c .before .before .before .before .faultless .ensures)
+
+pub tests-of-spec : {M : Type 1} → statement M
+tests-of-spec = tie.close (tie.spec faultless-requires fits-room-requires returns)

@@ -1,0 +1,27 @@
+-- The paper's number and values of each ending.
+-- Assumes nothing.
+use Prim.Native.Nat.{ℕ}
+use mathlib.Core.Bool.{Bool, false}
+use Rattle.answers.specs.Answers.{success, badHeader, noRoom, attemptsUsedUp, withdrawn, nothing, brokeItsWord}
+use Rattle.judgement.specs.declared.Ending.{Ending}
+use Rattle.judgement.specs.declared.Ending.the-variants.{Success, BadHeader, NoRoom, UsedUp, Withdrawn, Nothing, BrokeItsWord}
+
+-- its number
+abbrev pub numberOf : Ending → ℕ
+numberOf (Success unread) = success
+numberOf (BadHeader fault) = badHeader
+numberOf NoRoom = noRoom
+numberOf UsedUp = attemptsUsedUp
+numberOf Withdrawn = withdrawn
+numberOf Nothing = nothing
+numberOf BrokeItsWord = brokeItsWord
+
+-- a newer capture was acknowledged unread
+abbrev pub newerOf : Ending → Bool
+newerOf (Success unread) = unread
+newerOf (BadHeader fault) = false
+newerOf NoRoom = false
+newerOf UsedUp = false
+newerOf Withdrawn = false
+newerOf Nothing = false
+newerOf BrokeItsWord = false

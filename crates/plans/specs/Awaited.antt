@@ -1,0 +1,104 @@
+-- The awaited command is never a builder's refusal: under a plan that setup takes, while its chunk lies within the area, its words ask
+-- for just what the phase asks for.
+-- Assumes nothing.
+use Prim.Native.Nat.{ℕ, _≤_}
+use mathlib.Core.Path.{_≡_, refl}
+use mathlib.Core.List.{List}
+use mathlib.Core.Bool.{Bool, true, false, not, _&&_, _||_}
+use native.Mathlib.Omega.{arith}
+use lib.Dec.{leb, eqb}
+use borrow.Author.Tests.{le-leb}
+use Rattle.choices.specs.Choice.{pick}
+use Rattle.choices.specs.Tests.{holds, each, and-left, and-right, clash}
+use Rattle.answers.specs.Answers.{success}
+use Rattle.pages.specs.Pages.{most4}
+use Rattle.words.specs.declared.Command.{Command}
+use Rattle.words.specs.Words.{mostBlocks, taken, readOf}
+use Rattle.words.specs.Back.{meant, built-back}
+use Rattle.plans.specs.declared.Ask.{Ask}
+use Rattle.plans.specs.declared.Plan.{Plan}
+use Rattle.plans.specs.declared.Phase.{Phase}
+use Rattle.plans.specs.declared.Phase.the-variants.{First, Chunk, Close, Ack, Ended}
+use Rattle.plans.specs.Phases.{firstBy, ackBy, endedBy}
+use Rattle.plans.specs.Plans.{planTests, setupAnswer, areaLast, fitsRoom, chunkBlocks, mcdaOf, asksFor, builtFor, wordsBy, insideBy, withinBy}
+use Rattle.plans.specs.Limits.{plan-taken, plan-limits, area-limit, chunk-inside, chunk-most, chunk-some}
+
+-- what each phase asks of the controller
+abbrev pub meantFor : ℕ → Ask → Command
+meantFor page a = meant page (a .create) (a .mcda) (a .rae) (a .offset) (a .blocks)
+
+abbrev pub commandBy : Phase → Plan → List ℕ → Command
+commandBy f p last = meantFor (p .page) (asksFor f p last)
+
+-- the builder takes the awaited command, and its words are read back to what the phase asks for
+pub record Awaits (f : Phase) (p : Plan) (last : List ℕ) : Type 0 where
+  pub answer : builtFor (p .page) (asksFor f p last) .answer ≡ success
+  pub reads : readOf true (wordsBy f p last) ≡ commandBy f p last
+
+-- RAE is 0 in the acknowledgement alone, and create goes with the first command alone
+pub asks-rae : (f : Phase) (p : Plan) (last : List ℕ) → asksFor f p last .rae ≡ not (ackBy f)
+asks-rae First p last = refl
+asks-rae (Chunk at) p last = refl
+asks-rae (Close after) p last = refl
+asks-rae Ack p last = refl
+asks-rae Ended p last = refl
+
+pub asks-create : (f : Phase) (p : Plan) (last : List ℕ) → asksFor f p last .create ≡ (firstBy f && p .create)
+asks-create First p last = refl
+asks-create (Chunk at) p last = refl
+asks-create (Close after) p last = refl
+asks-create Ack p last = refl
+asks-create Ended p last = refl
+
+-- ---- the builder takes what is asked for
+
+abbrev pub takes : ℕ → Ask → Bool
+takes page a = taken page (a .create) (a .mcda) (a .offset) (a .blocks)
+
+pub first-mcda : (create mcdas : Bool) (area : ℕ) → area ≤ 4
+    → (leb (pick (create && mcdas) area 0) 4 ≡ true) × (create || eqb (pick (create && mcdas) area 0) 0 ≡ true)
+first-mcda true true area h = (le-leb area 4 h, refl)
+first-mcda true false area h = (refl, refl)
+first-mcda false mcdas area h = (refl, refl)
+
+first-taken : (p : Plan) → setupAnswer p ≡ success → taken (p .page) (p .create) (mcdaOf p) 0 1 ≡ true
+unfolding taken holds
+first-taken p e =
+    let t = plan-taken p e .0 in
+    let m = first-mcda (p .create) (p .caps .mcdas) (p .area) (plan-limits p e .area-high) in
+    rw (each (planTests p) t 0, each (planTests p) t 6, m .0, m .1)
+
+plain-taken : (p : Plan) (at n : ℕ) → setupAnswer p ≡ success → at ≤ most4 → 1 ≤ n → n ≤ mostBlocks → taken (p .page) false 0 at n ≡ true
+unfolding taken holds
+plain-taken p at n e l a b = rw (each (planTests p) (plan-taken p e .0) 0, le-leb 1 n a, le-leb n mostBlocks b, le-leb at most4 l)
+
+header-taken : (p : Plan) → setupAnswer p ≡ success → taken (p .page) false 0 0 1 ≡ true
+header-taken p e = plain-taken p 0 1 e (omega arith) (omega arith) (omega arith)
+
+-- a chunk that starts within the area is one that the builder takes
+pub chunk-taken : (p : Plan) (last : List ℕ) (at : ℕ) → setupAnswer p ≡ success → fitsRoom p last ≡ true → insideBy (Chunk at) (areaLast p last) ≡ true
+    → taken (p .page) false 0 at (chunkBlocks (p .chunk) at (areaLast p last)) ≡ true
+chunk-taken p last at e r i =
+    let l = plan-limits p e in
+    let b = area-limit p last e r in
+    let c = chunk-inside at (areaLast p last) i in
+    let m = chunk-most (p .chunk) at (areaLast p last) in
+    plain-taken p at (chunkBlocks (p .chunk) at (areaLast p last)) e (omega arith) (chunk-some (p .chunk) at (areaLast p last) (l .chunk-low) (c .1)) (omega arith)
+
+ask-taken : (f : Phase) (p : Plan) (last : List ℕ) → setupAnswer p ≡ success → withinBy f p last ≡ true → endedBy f ≡ false
+    → takes (p .page) (asksFor f p last) ≡ true
+unfolding withinBy
+ask-taken First p last e w g = first-taken p e
+ask-taken (Chunk at) p last e w g =
+    chunk-taken p last at e (and-left (fitsRoom p last) (insideBy (Chunk at) (areaLast p last)) w)
+    (and-right (fitsRoom p last) (insideBy (Chunk at) (areaLast p last)) w)
+ask-taken (Close after) p last e w g = header-taken p e
+ask-taken Ack p last e w g = header-taken p e
+ask-taken Ended p last e w g = clash {t = true} refl g
+
+pub awaited-built : (f : Phase) (p : Plan) (last : List ℕ) → setupAnswer p ≡ success → withinBy f p last ≡ true → endedBy f ≡ false → Awaits f p last
+unfolding wordsBy
+awaited-built f p last e w g =
+    let a = asksFor f p last in
+    let b = built-back true (p .page) (a .create) (a .mcda) (a .rae) (a .offset) (a .blocks) (ask-taken f p last e w g) (λ z. clash {t = true} refl z) in
+    record { answer = b .0; reads = b .1 }

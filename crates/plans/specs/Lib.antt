@@ -1,0 +1,4 @@
+pub mod Phases
+pub mod Plans
+pub mod Limits
+pub mod Awaited

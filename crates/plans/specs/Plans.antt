@@ -1,0 +1,114 @@
+-- Document 01, "Host: header check and collection", on what needs no state: setup's limits, and what each phase awaits. The definitions stand in
+-- the paper's order. w is the wanted area, B its last block, c the blocks of a command.
+-- Assumes nothing.
+use Prim.Native.Nat.{ℕ, _+_, _-_, _*_, _%_}
+use mathlib.Core.List.{List, [], _∷_}
+use mathlib.Core.Bool.{Bool, true, false, not, _&&_}
+use lib.Dec.{leb, eqb}
+use Rattle.choices.specs.Choice.{pick, firstThat, smaller}
+use Rattle.choices.specs.Tests.{holds}
+use Rattle.answers.specs.Answers.{success, noArea4, badSetup}
+use Rattle.pages.specs.Pages.{controllerPage, telemetryPage, block, lastOf, area4}
+use Rattle.words.specs.Words.{mostBlocks, builtOf}
+use Rattle.words.specs.declared.Built.{Built}
+use Rattle.words.specs.declared.Words.{Words}
+use Rattle.plans.specs.declared.Plan.{Plan}
+use Rattle.plans.specs.declared.Ask.{Ask}
+use Rattle.plans.specs.declared.Due.{Due}
+use Rattle.plans.specs.declared.Phase.{Phase}
+use Rattle.plans.specs.declared.Phase.the-variants.{First, Chunk, Close, Ack, Ended}
+use Rattle.plans.specs.Phases.{asked}
+
+-- ---- setup
+
+-- the most attempts, and the most bytes of a copy
+abbrev pub mostAttempts : ℕ
+mostAttempts = 256
+
+abbrev pub mostRoom : ℕ
+mostRoom = 536870912
+
+-- what setup asks for; 13 where one does not hold
+abbrev pub planTests : Plan → List Bool
+planTests p =
+    telemetryPage (p .page)
+    ∷ (leb 1 (p .area) && leb (p .area) 4)
+    ∷ (leb 1 (p .chunk) && leb (p .chunk) mostBlocks)
+    ∷ (leb 1 (p .attempts) && leb (p .attempts) mostAttempts)
+    ∷ (leb (p .room) mostRoom && eqb (p .room % block) 0)
+    ∷ (p .caps .extended && p .caps .telemetry)
+    ∷ not (p .create && eqb (p .page) controllerPage)
+    ∷ []
+
+-- area 4 is wanted without DA4S and ETDAS
+abbrev pub withoutArea4 : Plan → Bool
+withoutArea4 p = eqb (p .area) 4 && not (area4 (p .caps))
+
+-- setup's answer: 6 comes after 13
+unfoldable pub setupAnswer : Plan → ℕ
+setupAnswer p = firstThat ((not (holds (planTests p)), badSetup) ∷ (withoutArea4 p, noArea4) ∷ []) success
+
+-- ---- the wanted area
+
+-- B, the wanted area's last block
+abbrev pub areaLast : Plan → List ℕ → ℕ
+areaLast p last = lastOf (p .area) last
+
+-- the bytes of the wanted area
+abbrev pub areaBytes : Plan → List ℕ → ℕ
+areaBytes p last = block * areaLast p last
+
+-- the wanted area fits the copy
+unfoldable pub fitsRoom : Plan → List ℕ → Bool
+fitsRoom p last = leb (areaBytes p last) (p .room)
+
+-- ---- what is awaited
+
+-- the blocks of the chunk at a block: c, or what is left up to B
+unfoldable pub chunkBlocks : ℕ → ℕ → ℕ → ℕ
+chunkBlocks c at b = smaller c (b + 1 - at)
+
+-- MCDA of the first command: the wanted area with create, if MCDA is honoured
+abbrev pub mcdaOf : Plan → ℕ
+mcdaOf p = pick (p .create && p .caps .mcdas) (p .area) 0
+
+-- what each phase asks for: all but a chunk read the header, RAE is 0 in the acknowledgement alone, and nothing is asked for after the ending
+--                                   create        MCDA    RAE offset blocks
+abbrev pub asksFor : Phase → Plan → List ℕ → Ask
+asksFor First p last = asked (p .create) (mcdaOf p) true 0 1
+asksFor (Chunk at) p last = asked false 0 true at (chunkBlocks (p .chunk) at (areaLast p last))
+asksFor (Close after) p last = asked false 0 true 0 1
+asksFor Ack p last = asked false 0 false 0 1
+asksFor Ended p last = asked false 0 true 0 0
+
+-- the builder's answer to what a page is asked for
+abbrev pub builtFor : ℕ → Ask → Built
+builtFor page a = builtOf page (a .create) (a .mcda) (a .rae) (a .offset) (a .blocks)
+
+-- the awaited command; after the ending it is none, since the builder refuses no blocks with five zero words
+unfoldable pub wordsBy : Phase → Plan → List ℕ → Words
+wordsBy f p last = builtFor (p .page) (asksFor f p last) .words
+
+-- the bytes that a success brings
+abbrev pub expectedBy : Phase → Plan → List ℕ → ℕ
+expectedBy f p last = block * asksFor f p last .blocks
+
+-- an awaited chunk starts within the area
+abbrev pub insideBy : Phase → ℕ → Bool
+insideBy First b = true
+insideBy (Chunk at) b = leb 1 at && leb at b
+insideBy (Close after) b = true
+insideBy Ack b = true
+insideBy Ended b = true
+
+-- the header's area fits the copy, and an awaited chunk starts within that area
+unfoldable pub withinBy : Phase → Plan → List ℕ → Bool
+withinBy f p last = fitsRoom p last && insideBy f (areaLast p last)
+
+-- all of what is awaited
+unfoldable pub awaitedBy : Phase → Plan → List ℕ → Due
+awaitedBy f p last = record { words = wordsBy f p last; bytes = expectedBy f p last; within = withinBy f p last }
+
+-- the chunk at a block, or the closing header where the area ends before it
+unfoldable pub phaseAt : ℕ → ℕ → Phase
+phaseAt at b = pick (leb at b) (Chunk at) (Close false)

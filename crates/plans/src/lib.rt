@@ -1,0 +1,199 @@
+// What a collection is asked for, and what it awaits: setup's limits, the phases, and the command that each phase asks for.
+//
+// It rests on choices, answers, pages and words. It promises setup's answer to any plan, and of any phase of it the awaited command, the
+// length of its data and whether it lies within the area (specs/Plans.antt), and that the awaited command of a plan that setup takes is never a
+// builder's refusal (specs/Awaited.antt).
+use pages::Caps;
+use words::Words;
+ghost use mathlib.Core.Path.{_≡_};
+ghost use Prim.Native.Nat.{_+_};
+ghost use Rattle.choices.specs.Tests.{holds};
+ghost use Rattle.plans.specs.Phases.{asked, endedBy};
+ghost use Rattle.plans.specs.Plans.{planTests, setupAnswer, areaLast, areaBytes, fitsRoom, chunkBlocks, mcdaOf, asksFor, insideBy, phaseAt, awaitedBy};
+
+// The most attempts of a collection.
+pub const MOST_ATTEMPTS: u32 = 256;
+// The most bytes of a copy.
+pub const MOST_ROOM: usize = 536870912;
+
+// What setup is asked for: `area` is the wanted area, `chunk` the blocks of a command, `room` the bytes of the copy.
+pub struct Plan {
+    pub page: u8,
+    pub create: bool,
+    pub area: u8,
+    pub chunk: u32,
+    pub attempts: u32,
+    pub room: usize,
+    pub caps: Caps,
+}
+
+// What is awaited: the first header, the chunk that starts at a block of the page, the closing header, after a refused chunk or not, the
+// acknowledgement; or nothing.
+pub enum Phase {
+    First,
+    Chunk(u32),
+    Close(bool),
+    Ack,
+    Ended,
+}
+
+// What a phase asks the controller for: the builder's arguments after the page.
+pub struct Ask {
+    pub create: bool,
+    pub mcda: u8,
+    pub rae: bool,
+    pub offset: u32,
+    pub blocks: u32,
+}
+
+// What is awaited: the command's words, the bytes that its success brings, and whether the area of the attempt's header fits the copy and an
+// awaited chunk starts in it.
+pub struct Due {
+    pub words: Words,
+    pub bytes: usize,
+    pub within: bool,
+}
+
+fn plan_ok(p: Plan) -> bool
+    ensures { λ r. ⌜ r ≡ holds (planTests p) ⌝ }
+{
+    let caps = p.caps;
+    ((p.page == pages::HOST) | (p.page == pages::CONTROLLER))
+        & ((1 <= p.area) & (p.area <= 4))
+        & ((1 <= p.chunk) & (p.chunk <= words::MOST_BLOCKS))
+        & ((1 <= p.attempts) & (p.attempts <= MOST_ATTEMPTS))
+        & ((p.room <= MOST_ROOM) & (p.room % pages::BLOCK == 0))
+        & (caps.extended & caps.telemetry)
+        & !(p.create & (p.page == pages::CONTROLLER))
+}
+
+// Setup's answer to a plan: 13, then 6, or 0.
+pub fn setup_answer(p: Plan) -> u8
+    ensures { λ r. ⌜ r ≡ setupAnswer p ⌝ }
+{
+    let caps = p.caps;
+    let four = (p.area == 4) & !(caps.da4s & caps.etdas);
+    let lacks = choices::pick_u8(four, answers::NO_AREA_4, answers::SUCCESS);
+    choices::pick_u8(!plan_ok(p), answers::BAD_SETUP, lacks)
+}
+
+// B, the wanted area's last block.
+pub fn area_last(p: Plan, last: [u32; 4]) -> u32
+    ensures { λ r. ⌜ r ≡ areaLast p last ⌝ }
+{
+    pages::last_of(p.area as u32, last)
+}
+
+// The bytes of the wanted area of a header with these last blocks.
+pub fn area_bytes(p: Plan, last: [u32; 4]) -> usize
+    ensures { λ r. ⌜ r ≡ areaBytes p last ⌝ }
+{
+    pages::in_bytes(area_last(p, last))
+}
+
+// The wanted area of a header with these last blocks fits the copy.
+pub fn fits_room(p: Plan, last: [u32; 4]) -> bool
+    ensures { λ r. ⌜ r ≡ fitsRoom p last ⌝ }
+{
+    area_bytes(p, last) <= p.room
+}
+
+// The blocks of the chunk at a block; none past B.
+fn chunk_blocks(c: u32, at: u32, b: u32) -> u32
+    ensures { λ r. ⌜ r ≡ chunkBlocks c at b ⌝ }
+{
+    if at <= b {
+        let left = b - at;
+        if left < c {
+            return left + 1;
+        }
+        return c;
+    }
+    0
+}
+
+fn mcda(p: Plan) -> u8
+    ensures { λ r. ⌜ r ≡ mcdaOf p ⌝ }
+{
+    let caps = p.caps;
+    choices::pick_u8(p.create & caps.mcdas, p.area, 0)
+}
+
+// RAE 0 is the acknowledgement's alone, and create the first command's.
+fn asking(create: bool, mcda: u8, rae: bool, offset: u32, blocks: u32) -> Ask
+    ensures { λ r. ⌜ r ≡ asked create mcda rae offset blocks ⌝ }
+{
+    Ask {
+        create,
+        mcda,
+        rae,
+        offset,
+        blocks,
+    }
+}
+
+fn asks_for(phase: Phase, p: Plan, last: [u32; 4]) -> Ask
+    ensures { λ r. ⌜ r ≡ asksFor phase p last ⌝ }
+{
+    let c = p.chunk;
+    let b = area_last(p, last);
+    match phase {
+        Phase::First => asking(p.create, mcda(p), true, 0, 1),
+        Phase::Chunk(at) => asking(false, 0, true, at, chunk_blocks(c, at, b)),
+        Phase::Close(_) => asking(false, 0, true, 0, 1),
+        Phase::Ack => asking(false, 0, false, 0, 1),
+        Phase::Ended => asking(false, 0, true, 0, 0),
+    }
+}
+
+fn inside(phase: Phase, b: u32) -> bool
+    ensures { λ r. ⌜ r ≡ insideBy phase b ⌝ }
+{
+    match phase {
+        Phase::First => true,
+        Phase::Chunk(at) => (1 <= at) & (at <= b),
+        Phase::Close(_) => true,
+        Phase::Ack => true,
+        Phase::Ended => true,
+    }
+}
+
+// Nothing is awaited any more.
+pub fn ended(phase: Phase) -> bool
+    ensures { λ r. ⌜ r ≡ endedBy phase ⌝ }
+{
+    match phase {
+        Phase::First => false,
+        Phase::Chunk(_) => false,
+        Phase::Close(_) => false,
+        Phase::Ack => false,
+        Phase::Ended => true,
+    }
+}
+
+// What is awaited in a phase, in an attempt whose header has these last blocks. After the ending it is five zero words and no bytes.
+pub fn awaited(phase: Phase, p: Plan, last: [u32; 4]) -> Due
+    ensures { λ r. ⌜ r ≡ awaitedBy phase p last ⌝ }
+{
+    let a = asks_for(phase, p, last);
+    let built = words::build(p.page, a.create, a.mcda, a.rae, a.offset, a.blocks);
+    let words = built.words;
+    let fits = fits_room(p, last);
+    Due {
+        words,
+        bytes: pages::in_bytes(a.blocks),
+        within: fits & inside(phase, area_last(p, last)),
+    }
+}
+
+// The chunk that is c blocks after a block, or the closing header where the area ends before it.
+pub fn phase_after(at: u32, c: u32, b: u32) -> Phase
+    ensures { λ r. ⌜ r ≡ phaseAt (at + c) b ⌝ }
+{
+    if at <= b {
+        if c <= b - at {
+            return Phase::Chunk(at + c);
+        }
+    }
+    Phase::Close(false)
+}

@@ -1,0 +1,415 @@
+-- No controller can keep a collection from ending, and none can bring it into a state that gets 13: for any completions at all, each state
+-- of a run keeps `Reached`. An attempt sends its chunks and a closing header, which is the next attempt's header; the first header is one
+-- more, and so is the acknowledgement.
+-- Assumes nothing.
+use Prim.Native.Nat.{ℕ, _+_, _-_, _*_, _≤_, _<_}
+use mathlib.Core.Path.{_≡_, refl, sym, _∙_}
+use mathlib.Core.List.{List, [], _∷_}
+use mathlib.Core.Bool.{Bool, true, false, not}
+use native.Mathlib.Omega.{arith}
+use native.Mathlib.Nat.{add-mul, mul-add, mul-le-mul-left, mul-le-mul-right, div-eq-sub-div, div-lt-iff-lt-mul}
+use lib.ListN.{length}
+use lib.Dec.{leb, eqb}
+use borrow.Author.Tests.{le-leb, eq-eqb}
+use Rattle.choices.specs.Choice.{pick, pick-cases, larger-left, larger-right, firstThat}
+use Rattle.choices.specs.Tests.{holds, clash}
+use Rattle.answers.specs.Answers.{success, badSetup, alreadyEnded, doesNotFit}
+use Rattle.copies.specs.Parts.{zeros}
+use Rattle.pages.specs.Pages.{controllerPage, most4, lastOf}
+use Rattle.plans.specs.declared.Plan.{Plan}
+use Rattle.plans.specs.declared.Phase.{Phase}
+use Rattle.plans.specs.declared.Phase.the-variants.{First, Chunk, Close, Ack, Ended}
+use Rattle.completions.specs.declared.Seen.{Seen}
+use Rattle.judgement.specs.declared.Ending.{Ending}
+use Rattle.judgement.specs.declared.Ending.the-variants.{Success, NoRoom}
+use Rattle.judgement.specs.declared.Move.{Move}
+use Rattle.judgement.specs.declared.Move.the-variants.{End, Open, More, Skip, Acknowledge}
+use Rattle.plans.specs.Limits.{plan-limits, area-limit, chunk-inside}
+use Rattle.plans.specs.Phases.{endedBy, closingBy, silentBy, closing-is}
+use Rattle.plans.specs.Plans.{setupAnswer, areaLast, fitsRoom, insideBy, withinBy, phaseAt}
+use Rattle.collection.specs.Collection.{mostCount, validState, completionFits, lookOf, refusalOf, moveOf, setupOf, answerOf}
+use Rattle.collection.specs.Laws.{move-cases}
+use Rattle.collection.specs.Steps.{makes, setup-taken, refused-step, taken-step}
+use Rattle.choices.specs.Tests.{same-or-not}
+use Rattle.collection.specs.declared.Collection.{Collection}
+use Rattle.runs.specs.Run.{Completion, stepBy, after, stateOf, chunksFrom, chunksOf, mostChunks, acknowledging, fitting}
+use Rattle.runs.specs.Counted.{step-counts, plan-stays}
+
+-- ---- chunks
+
+-- a chunk is one of those that are left
+chunks-less : (c at b : ℕ) → 1 ≤ c → at ≤ b → chunksFrom c at b ≡ chunksFrom c (at + c) b + 1
+chunks-less c at b l h =
+    let e : b + c - at - c ≡ b + c - (at + c) = omega arith in
+    let d = div-eq-sub-div {m = c} {n = b + c - at} l (omega arith) in
+    rw e at d
+
+-- no more chunks than blocks
+chunks-few : (c b : ℕ) → 1 ≤ c → chunksFrom c 1 b ≤ b
+chunks-few c b l =
+    let m = mul-le-mul-left b l in
+    let a = add-mul b 1 c in
+    let h = div-lt-iff-lt-mul {k = c} {x = b + c - 1} {y = b + 1} l .1 (omega arith) in
+    omega arith
+
+-- ---- what holds of each state of a run whose headers call for at most most chunks
+
+-- the commands that the attempt may still send after the awaited one
+abbrev dueBy : Phase → ℕ → Plan → List ℕ → ℕ
+dueBy First most p last = most + 1
+dueBy (Chunk at) most p last = chunksFrom (p .chunk) at (areaLast p last)
+dueBy (Close after) most p last = 0
+dueBy Ack most p last = 0
+dueBy Ended most p last = 0
+
+-- the first header and, once it may have been sent, the acknowledgement
+abbrev extraBy : Phase → Plan → ℕ
+extraBy f p = 1 + pick (silentBy f) (acknowledging p) 0
+
+pub record Reached (most : ℕ) (s : Collection) : Type 0 where
+  pub plan : setupAnswer (s .plan) ≡ success
+  pub low : 1 ≤ s .attempt .number
+  pub high : s .attempt .number ≤ s .plan .attempts
+  pub room : fitsRoom (s .plan) (s .attempt .last) ≡ true
+  pub inside : insideBy (s .phase) (areaLast (s .plan) (s .attempt .last)) ≡ true
+  pub few : s .count + dueBy (s .phase) most (s .plan) (s .attempt .last) ≤ extraBy (s .phase) (s .plan) + s .attempt .number * (most + 1)
+
+few-closing : (f : Phase) (most n t : ℕ) (p : Plan) (last : List ℕ) → closingBy f ≡ true → n + dueBy f most p last ≤ extraBy f p + t → n ≤ 1 + t
+few-closing f most n t p last c h =
+    let g : n + 0 ≤ 1 + t = rw (closing-is f c .is) at h in
+    omega arith
+
+few-ended : (f : Phase) (most n t : ℕ) (p : Plan) (last : List ℕ) → n + dueBy f most p last ≤ extraBy f p + t → n + 0 ≤ 1 + acknowledging p + t
+few-ended f most n t p last h =
+    let l : pick (silentBy f) (acknowledging p) 0 ≤ acknowledging p =
+    pick-cases (λ (x : ℕ). x ≤ acknowledging p) (silentBy f) (λ e. omega arith) (λ e. omega arith) in
+    omega arith
+
+few-more : (f : Phase) (most more n t : ℕ) (p : Plan) (last : List ℕ) → most ≤ more → 1 ≤ t → n + dueBy f most p last ≤ extraBy f p + t * (most + 1)
+    → n + dueBy f more p last ≤ extraBy f p + t * (more + 1)
+few-more First most more n t p last l o h =
+    let m = mul-le-mul-right (more - most) o in
+    let a = mul-add t most 1 in
+    let b = mul-add t more 1 in
+    let c = mul-add t most (more - most) in
+    let d : most + (more - most) ≡ more = omega arith in
+    let g : t * more ≡ t * most + t * (more - most) = rw d at c in
+    omega arith
+few-more (Chunk at) most more n t p last l o h = let m = mul-le-mul-left {m = most + 1} {n = more + 1} t (omega arith) in omega arith
+few-more (Close after) most more n t p last l o h = let m = mul-le-mul-left {m = most + 1} {n = more + 1} t (omega arith) in omega arith
+few-more Ack most more n t p last l o h = let m = mul-le-mul-left {m = most + 1} {n = more + 1} t (omega arith) in omega arith
+few-more Ended most more n t p last l o h = let m = mul-le-mul-left {m = most + 1} {n = more + 1} t (omega arith) in omega arith
+
+-- the phase at a block: the chunk there, or the closing header
+at-inside : (at b : ℕ) → 1 ≤ at → insideBy (phaseAt at b) b ≡ true
+unfolding phaseAt
+at-inside at b h =
+    pick-cases (λ (f : Phase). insideBy f b ≡ true) (leb at b) (λ e. rw (le-leb 1 at h, e)) (λ e. refl)
+
+at-few : (at most n t : ℕ) (p : Plan) (last : List ℕ) → n + chunksFrom (p .chunk) at (areaLast p last) ≤ 1 + t
+    → n + dueBy (phaseAt at (areaLast p last)) most p last ≤ extraBy (phaseAt at (areaLast p last)) p + t
+unfolding phaseAt
+at-few at most n t p last h =
+    pick-cases (λ (f : Phase). n + dueBy f most p last ≤ extraBy f p + t) (leb at (areaLast p last)) (λ e. h) (λ e. omega arith)
+
+-- what a move leads to, where the header of the state after it calls for at most most chunks
+abbrev Leads : ℕ → Collection → Seen → Move → Type 0
+Leads most s h m =
+    (fitsRoom (s .plan) (makes s h m .state .attempt .last) ≡ true → chunksOf (s .plan) (makes s h m .state .attempt .last) ≤ most)
+    → Reached most (makes s h m .state)
+
+module _ (most : ℕ) (s : Collection) (h : Seen) (r : Reached most s) where
+  over : (e : Ending) → Leads most s h (End e false)
+  unfolding makes
+  over e c = record {
+    plan = r .plan;
+    low = r .low;
+    high = r .high;
+    room = r .room;
+    inside = refl;
+    few = few-ended (s .phase) most (s .count) (s .attempt .number * (most + 1)) (s .plan) (s .attempt .last) (r .few);
+  }
+
+  large : (e : Ending) → closingBy (s .phase) ≡ true → s .attempt .number < s .plan .attempts → Leads most s h (End e true)
+  unfolding makes
+  large e f l c =
+      let n = few-closing (s .phase) most (s .count) (s .attempt .number * (most + 1)) (s .plan) (s .attempt .last) f (r .few) in
+      let a = add-mul (s .attempt .number) 1 (most + 1) in
+      record { plan = r .plan; low = omega arith; high = omega arith; room = r .room; inside = refl; few = omega arith }
+
+  first : s .phase ≡ First → fitsRoom (s .plan) (h .last) ≡ true → Leads most s h (Open false)
+  unfolding makes
+  first f w c =
+      let n : s .count + (most + 1) ≤ 1 + s .attempt .number * (most + 1) = rw f at (r .few) in
+      let k = c w in
+      record {
+        plan = r .plan;
+        low = r .low;
+        high = r .high;
+        room = w;
+        inside = at-inside 1 (areaLast (s .plan) (h .last)) (omega arith);
+        few = at-few 1 most (s .count + 1) (s .attempt .number * (most + 1)) (s .plan) (h .last) (omega arith);
+      }
+
+  again : closingBy (s .phase) ≡ true → s .attempt .number < s .plan .attempts → fitsRoom (s .plan) (h .last) ≡ true → Leads most s h (Open true)
+  unfolding makes
+  again f l w c =
+      let n = few-closing (s .phase) most (s .count) (s .attempt .number * (most + 1)) (s .plan) (s .attempt .last) f (r .few) in
+      let a = add-mul (s .attempt .number) 1 (most + 1) in
+      let k = c w in
+      record {
+        plan = r .plan;
+        low = omega arith;
+        high = omega arith;
+        room = w;
+        inside = at-inside 1 (areaLast (s .plan) (h .last)) (omega arith);
+        few = at-few 1 most (s .count + 1) ((s .attempt .number + 1) * (most + 1)) (s .plan) (h .last) (omega arith);
+      }
+
+  more : (at : ℕ) → s .phase ≡ Chunk at → Leads most s h (More at)
+  unfolding makes
+  more at f c =
+      let n : s .count + chunksFrom (s .plan .chunk) at (areaLast (s .plan) (s .attempt .last)) ≤ 1 + s .attempt .number * (most + 1) = rw f at (r .few) in
+      let l = plan-limits (s .plan) (r .plan) in
+      let i = chunk-inside at (areaLast (s .plan) (s .attempt .last)) (rw f at (r .inside)) in
+      let k = chunks-less (s .plan .chunk) at (areaLast (s .plan) (s .attempt .last)) (l .chunk-low) (i .1) in
+      record {
+        plan = r .plan;
+        low = r .low;
+        high = r .high;
+        room = r .room;
+        inside = at-inside (at + s .plan .chunk) (areaLast (s .plan) (s .attempt .last)) (omega arith);
+        few = at-few (at + s .plan .chunk) most (s .count + 1) (s .attempt .number * (most + 1)) (s .plan) (s .attempt .last) (omega arith);
+      }
+
+  skip : (at : ℕ) → s .phase ≡ Chunk at → Leads most s h Skip
+  unfolding makes
+  skip at f c =
+      let n : s .count + chunksFrom (s .plan .chunk) at (areaLast (s .plan) (s .attempt .last)) ≤ 1 + s .attempt .number * (most + 1) = rw f at (r .few) in
+      let l = plan-limits (s .plan) (r .plan) in
+      let i = chunk-inside at (areaLast (s .plan) (s .attempt .last)) (rw f at (r .inside)) in
+      let k = chunks-less (s .plan .chunk) at (areaLast (s .plan) (s .attempt .last)) (l .chunk-low) (i .1) in
+      record { plan = r .plan; low = r .low; high = r .high; room = r .room; inside = refl; few = omega arith }
+
+  acknowledge : s .phase ≡ Close false → s .plan .page ≡ controllerPage → Leads most s h Acknowledge
+  unfolding makes
+  acknowledge f e c =
+      let a : acknowledging (s .plan) ≡ 1 = rw e in
+      let n : s .count + 0 ≤ 1 + s .attempt .number * (most + 1) = rw f at (r .few) in
+      record { plan = r .plan; low = r .low; high = r .high; room = r .room; inside = refl; few = omega arith }
+
+  leads : (ok : Bool) → Leads most s h (moveOf s ok h)
+  leads ok = move-cases (Leads most s h) s ok h (record {
+    fail = λ e l. over e;
+    large = λ f l. large NoRoom f l;
+    first = λ f w. first f w;
+    again = λ f l w. again f l w;
+    more = λ at f y. more at f;
+    skip = λ at f. skip at f;
+    acknowledge = λ f p. acknowledge f p;
+    stand = λ f. over (Success false);
+    done = λ f. over _;
+  })
+
+-- a larger bound holds too
+pub reached-more : (most more : ℕ) (s : Collection) → most ≤ more → Reached most s → Reached more s
+reached-more most more s l r = record {
+  plan = r .plan;
+  low = r .low;
+  high = r .high;
+  room = r .room;
+  inside = r .inside;
+  few = few-more (s .phase) most more (s .count) (s .attempt .number) (s .plan) (s .attempt .last) l (r .low) (r .few);
+}
+
+pub step-reached : (most : ℕ) (s : Collection) (k : Completion) → Reached most s
+    → (fitsRoom (s .plan) (stepBy s k .state .attempt .last) ≡ true → chunksOf (s .plan) (stepBy s k .state .attempt .last) ≤ most)
+    → Reached most (stepBy s k .state)
+step-reached most s k r c =
+    same-or-not (refusalOf s (k .ok) (length (k .bytes)) (k .copy)) success
+    (λ e.
+    let q = taken-step s (k .ok) (k .bytes) (k .copy) e in
+    rw q (leads most s (lookOf s (k .bytes)) r (k .ok) (rw q at c)))
+    (λ e. rw (refused-step s (k .ok) (k .bytes) (k .copy) e) r)
+
+-- ---- runs
+
+-- before any header B is 0
+no-area : (area : ℕ) → lastOf area (zeros 4) ≡ 0
+no-area area =
+    pick-cases (λ (x : ℕ). x ≡ 0) (eqb area 1) (λ e. refl)
+    (λ e. pick-cases (λ (x : ℕ). x ≡ 0) (eqb area 2) (λ f. refl) (λ f. pick-cases (λ (x : ℕ). x ≡ 0) (eqb area 3) (λ g. refl) (λ g. refl)))
+
+-- the most chunks are no less than those of the state's own header
+most-first : (s : Collection) (ks : List Completion) → chunksOf (s .plan) (s .attempt .last) ≤ mostChunks s ks
+unfolding mostChunks
+most-first s [] = omega arith
+most-first s (k ∷ ks) = larger-left (chunksOf (s .plan) (s .attempt .last)) (mostChunks (stepBy s k .state) ks)
+
+pub begins : (most : ℕ) (p : Plan) → setupAnswer p ≡ success → Reached most (setupOf p .state)
+unfolding fitsRoom
+begins most p e =
+    let l = plan-limits p e in
+    let z = no-area (p .area) in
+    rw (setup-taken p e) (record { plan = e; low = omega arith; high = l .attempts-low; room = rw z (le-leb 0 (p .room) (omega arith)); inside = refl; few = omega arith })
+
+pub run-reached : (most : ℕ) (s : Collection) (ks : List Completion) → Reached most s → mostChunks s ks ≤ most → Reached most (after s ks)
+unfolding after mostChunks
+run-reached most s [] r c = r
+run-reached most s (k ∷ ks) r c =
+    let p = step-counts s (k .ok) (k .bytes) (k .copy) .plan in
+    let l = larger-right (chunksOf (s .plan) (s .attempt .last)) (mostChunks (stepBy s k .state) ks) in
+    let f = most-first (stepBy s k .state) ks in
+    let g : chunksOf (s .plan) (stepBy s k .state .attempt .last) ≤ mostChunks (stepBy s k .state) ks = rw p at f in
+    run-reached most (stepBy s k .state) ks (step-reached most s k r (λ w. omega arith)) (omega arith)
+
+-- no header that fits the largest copy calls for more chunks than the house limit has blocks
+house-limit : (p : Plan) (last : List ℕ) → setupAnswer p ≡ success → fitsRoom p last ≡ true → chunksOf p last ≤ most4
+house-limit p last e w =
+    let l = plan-limits p e in
+    let f = chunks-few (p .chunk) (areaLast p last) (l .chunk-low) in
+    let b = area-limit p last e w in
+    omega arith
+
+pub step-house : (s : Collection) (k : Completion) → Reached most4 s → Reached most4 (stepBy s k .state)
+step-house s k r = step-reached most4 s k r (λ w. house-limit (s .plan) (stepBy s k .state .attempt .last) (r .plan) w)
+
+pub run-house : (s : Collection) (ks : List Completion) → Reached most4 s → Reached most4 (after s ks)
+unfolding after
+run-house s [] r = r
+run-house s (k ∷ ks) r = run-house (stepBy s k .state) ks (step-house s k r)
+
+-- the commands sent by an attempt
+pub reached-count : (most : ℕ) (s : Collection) → Reached most s → s .count ≤ 1 + s .attempt .number * (most + 1) + acknowledging (s .plan)
+reached-count most s r =
+    let n = few-ended (s .phase) most (s .count) (s .attempt .number * (most + 1)) (s .plan) (s .attempt .last) (r .few) in
+    omega arith
+
+reached-most : (most : ℕ) (s : Collection) → Reached most s → s .count ≤ 1 + s .plan .attempts * (most + 1) + acknowledging (s .plan)
+reached-most most s r =
+    let n = reached-count most s r in
+    let m = mul-le-mul-right (most + 1) (r .high) in
+    omega arith
+
+one-more : (p : Plan) → acknowledging p ≤ 1
+one-more p = pick-cases (λ (x : ℕ). x ≤ 1) (eqb (p .page) controllerPage) (λ e. omega arith) (λ e. omega arith)
+
+pub reached-ok : (s : Collection) → Reached most4 s → validState s ≡ true
+unfolding validState holds withinBy
+reached-ok s r =
+    let n = reached-most most4 s r in
+    let o = one-more (s .plan) in
+    rw (eq-eqb (setupAnswer (s .plan)) success (r .plan), le-leb 1 (s .attempt .number) (r .low), le-leb (s .attempt .number) (s .plan .attempts) (r .high), le-leb (s .count) (mostCount (s .plan .attempts)) (omega arith), r .room, r .inside)
+
+-- Every state that setup and steps give is valid: whatever completes the commands, none of them gets 13.
+pub never-13 : (p : Plan) (ks : List Completion) → setupAnswer p ≡ success → validState (stateOf p ks) ≡ true
+never-13 p ks e = reached-ok (stateOf p ks) (run-house (setupOf p .state) ks (begins most4 p e))
+
+-- Whatever completes the commands, a run sends at most 1 + attempts·(C + 1) of them, one more on 08h, C being the most chunks that any of its
+-- headers calls for.
+pub few-commands : (p : Plan) (ks : List Completion) → setupAnswer p ≡ success
+    → stateOf p ks .count ≤ 1 + p .attempts * (mostChunks (setupOf p .state) ks + 1) + acknowledging p
+few-commands p ks e =
+    let most = mostChunks (setupOf p .state) ks in
+    let n = reached-most most (stateOf p ks) (run-reached most (setupOf p .state) ks (begins most p e) (omega arith)) in
+    let q : stateOf p ks .plan ≡ p = plan-stays (setupOf p .state) ks ∙ rw (setup-taken p e) in
+    rw q at n
+
+-- ---- every completion that fits brings a run nearer to its end
+
+-- an ended state refuses every completion, and a valid one that has not ended refuses one only with 15
+three : (a b c : Bool) → a ≡ false → b ≡ true → (firstThat ((a, alreadyEnded) ∷ (not b, badSetup) ∷ (not c, doesNotFit) ∷ []) success ≡ success → ⊥)
+    → firstThat ((a, alreadyEnded) ∷ (not b, badSetup) ∷ (not c, doesNotFit) ∷ []) success ≡ doesNotFit
+three true b c p q r = clash {t = true} refl p
+three false false c p q r = clash {t = true} refl (sym q)
+three false true true p q r = absurd (r refl)
+three false true false p q r = refl
+
+only-15 : (s : Collection) (ok : Bool) (bytes copy : ℕ) → endedBy (s .phase) ≡ false → validState s ≡ true → (refusalOf s ok bytes copy ≡ success → ⊥)
+    → refusalOf s ok bytes copy ≡ doesNotFit
+unfolding refusalOf
+only-15 s ok bytes copy g w r = three (endedBy (s .phase)) (validState s) (completionFits s ok bytes copy) g w r
+
+ended-refused : (s : Collection) (ok : Bool) (bytes copy : ℕ) → endedBy (s .phase) ≡ true → refusalOf s ok bytes copy ≡ success → ⊥
+unfolding refusalOf
+ended-refused s ok bytes copy e r = let z : _≡_ {A = ℕ} 14 0 = rw e at r in omega arith
+
+-- a state that has ended stays
+stays-ended : (s : Collection) (ks : List Completion) → endedBy (s .phase) ≡ true → endedBy (after s ks .phase) ≡ true
+unfolding after
+stays-ended s [] e = e
+stays-ended s (k ∷ ks) e = stays-ended (stepBy s k .state) ks (rw (refused-step s (k .ok) (k .bytes) (k .copy) (ended-refused s (k .ok) (length (k .bytes)) (k .copy) e)) e)
+
+not-yet : (s : Collection) (ks : List Completion) → endedBy (after s ks .phase) ≡ false → endedBy (s .phase) ≡ false
+not-yet s ks g = by (endedBy (s .phase)) refl
+  where
+    by : (t : Bool) → endedBy (s .phase) ≡ t → t ≡ false
+    by true e = clash (stays-ended s ks e) g
+    by false e = refl
+
+-- while it has not, a completion that fits is followed by a command
+act-going : (s : Collection) (h : Seen) (m : Move) → endedBy (makes s h m .state .phase) ≡ false
+    → makes s h m .state .count ≡ s .count + pick (eqb (answerOf (makes s h m .next)) doesNotFit) 0 1
+unfolding makes
+act-going s h (End x next) e = clash {t = true} refl e
+act-going s h (Open next) e = refl
+act-going s h (More at) e = refl
+act-going s h Skip e = refl
+act-going s h Acknowledge e = refl
+
+step-going : (s : Collection) (k : Completion) → validState s ≡ true → endedBy (stepBy s k .state .phase) ≡ false
+    → stepBy s k .state .count ≡ s .count + pick (eqb (answerOf (stepBy s k .next)) doesNotFit) 0 1
+step-going s k w g =
+    same-or-not (refusalOf s (k .ok) (length (k .bytes)) (k .copy)) success
+    (λ e.
+    let q = taken-step s (k .ok) (k .bytes) (k .copy) e in
+    rw q (act-going s (lookOf s (k .bytes)) (moveOf s (k .ok) (lookOf s (k .bytes))) (rw q at g)))
+    (λ e.
+    let q = refused-step s (k .ok) (k .bytes) (k .copy) e in
+    let f = only-15 s (k .ok) (length (k .bytes)) (k .copy) (rw q at g) w e in
+    rw (q, f) (omega arith))
+
+fitting-counts : (s : Collection) (ks : List Completion) → Reached most4 s → endedBy (after s ks .phase) ≡ false
+    → after s ks .count ≡ s .count + fitting s ks
+unfolding after fitting
+fitting-counts s [] r g = omega arith
+fitting-counts s (k ∷ ks) r g =
+    let i = fitting-counts (stepBy s k .state) ks (step-house s k r) g in
+    let c = step-going s k (reached-ok s r) (not-yet (stepBy s k .state) ks g) in
+    omega arith
+
+-- No controller can keep a collection from ending: 1 + attempts·(C + 1) completions that fit the awaited command, one more on 08h, end it,
+-- whatever they are.
+pub ends : (p : Plan) (ks : List Completion) → setupAnswer p ≡ success
+    → 1 + p .attempts * (mostChunks (setupOf p .state) ks + 1) + acknowledging p ≤ fitting (setupOf p .state) ks
+    → endedBy (stateOf p ks .phase) ≡ true
+ends p ks e l = by (endedBy (stateOf p ks .phase)) refl
+  where
+    by : (t : Bool) → endedBy (stateOf p ks .phase) ≡ t → t ≡ true
+    by true g = refl
+    by false g =
+        let n = few-commands p ks e in
+        let c = fitting-counts (setupOf p .state) ks (begins most4 p e) g in
+        let o : setupOf p .state .count ≡ 1 = rw (setup-taken p e) in
+        absurd (omega arith)
+
+house-chunks : (s : Collection) (ks : List Completion) → Reached most4 s → mostChunks s ks ≤ most4
+unfolding mostChunks
+house-chunks s [] r = house-limit (s .plan) (s .attempt .last) (r .plan) (r .room)
+house-chunks s (k ∷ ks) r =
+    let a = house-limit (s .plan) (s .attempt .last) (r .plan) (r .room) in
+    let b = house-chunks (stepBy s k .state) ks (step-house s k r) in
+    pick-cases (λ (x : ℕ). x ≤ most4) (leb (chunksOf (s .plan) (s .attempt .last)) (mostChunks (stepBy s k .state) ks)) (λ t. b) (λ t. a)
+
+-- And C is 1,048,576 at most.
+pub chunks-limited : (p : Plan) (ks : List Completion) → setupAnswer p ≡ success → mostChunks (setupOf p .state) ks ≤ most4
+chunks-limited p ks e = house-chunks (setupOf p .state) ks (begins most4 p e)
+
+-- So there is a number of completions that ends any run with these attempts, from any controller.
+pub ends-in-any-case : (p : Plan) (ks : List Completion) → setupAnswer p ≡ success → mostCount (p .attempts) ≤ fitting (setupOf p .state) ks
+    → endedBy (stateOf p ks .phase) ≡ true
+ends-in-any-case p ks e l =
+    let c = chunks-limited p ks e in
+    let m = mul-le-mul-left {m = mostChunks (setupOf p .state) ks + 1} {n = most4 + 1} (p .attempts) (omega arith) in
+    let o = one-more p in
+    ends p ks e (omega arith)

@@ -1,0 +1,18 @@
+-- `turns::following` meets its contract: c blocks after the chunk's block.
+-- Assumes nothing.
+use mathlib.Core.Path.{_∙_}
+use borrow.Author.Needs.{needs}
+use Rattle.turns.proofs.following.Statement.{statement}
+use Rattle.turns.proofs.following.Tie as tie
+
+area-last-requires : tie.Need-area-last-requires
+area-last-requires c κs = search needs
+
+phase-after-requires : tie.Need-phase-after-requires
+phase-after-requires c κs = search needs
+
+returns : tie.Need-returns
+returns c = c .phase-after .ensures ∙ rw (c .before .area-last .ensures)
+
+pub following-spec : {M : Type 1} → statement M
+following-spec = tie.close (tie.spec area-last-requires phase-after-requires returns)

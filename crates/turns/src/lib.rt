@@ -1,0 +1,97 @@
+// What a move makes of a collection: the phase and the header that follow it, and what happens to the copy.
+//
+// It rests on answers, pages, plans, completions and judgement. It promises the turn that any move in any attempt makes (specs/Turns.antt).
+use completions::Seen;
+use completions::Touch;
+use judgement::Attempt;
+use judgement::Ending;
+use judgement::Move;
+use plans::Phase;
+use plans::Plan;
+ghost use mathlib.Core.Path.{_≡_};
+ghost use Prim.Native.Nat.{_-_, _*_};
+ghost use Rattle.choices.specs.Choice.{pick};
+ghost use Rattle.pages.specs.Pages.{block};
+ghost use Rattle.turns.specs.Turns.{openingOf, followingOf, leftBy, turned, turnOf};
+
+// What follows a move: the phase, in this attempt or the next one, the generation and last blocks of that attempt's header, and what happens to the
+// copy.
+pub struct Turn {
+    pub phase: Phase,
+    pub next: bool,
+    pub generation: u8,
+    pub last: [u32; 4],
+    pub touch: Touch,
+}
+
+// Where the chunk at a block goes: its offset less the header.
+fn place_of(at: u32) -> usize
+    ensures { λ r. ⌜ r ≡ block * (at - 1) ⌝ }
+{
+    if 1 <= at {
+        return pages::in_bytes(at - 1);
+    }
+    0
+}
+
+// The chunk at block 1, right after the header, or the closing header where the area has none.
+fn opening(p: Plan, last: [u32; 4]) -> Phase
+    ensures { λ r. ⌜ r ≡ openingOf p last ⌝ }
+{
+    plans::phase_after(0, 1, plans::area_last(p, last))
+}
+
+// What follows the good chunk at a block: one c blocks on, or the closing header.
+fn following(p: Plan, last: [u32; 4], at: u32) -> Phase
+    ensures { λ r. ⌜ r ≡ followingOf p last at ⌝ }
+{
+    plans::phase_after(at, p.chunk, plans::area_last(p, last))
+}
+
+// Success leaves what was collected and zeros after it, every other ending zeros.
+fn left_by(ending: Ending, place: usize) -> Touch
+    ensures { λ r. ⌜ r ≡ leftBy ending place ⌝ }
+{
+    let good = judgement::number(ending) == answers::SUCCESS;
+    if good { Touch::Tail(place) } else { Touch::All }
+}
+
+fn turn_to(phase: Phase, next: bool, generation: u8, last: [u32; 4], touch: Touch) -> Turn
+    ensures { λ r. ⌜ r ≡ turned phase next generation last touch ⌝ }
+{
+    Turn {
+        phase,
+        next,
+        generation,
+        last,
+        touch,
+    }
+}
+
+// What a move makes of an attempt, `h` being what was seen of the data.
+pub fn turn_of(p: Plan, a: Attempt, h: Seen, m: Move) -> Turn
+    ensures { λ r. ⌜ r ≡ turnOf p a h m ⌝ }
+{
+    let held = a.last;
+    let shown = h.last;
+    let g = a.generation;
+    match m {
+        Move::End(ending, next) => turn_to(
+            Phase::Ended,
+            next,
+            g,
+            held,
+            left_by(ending, plans::area_bytes(p, held)),
+        ),
+        Move::Open(next) => turn_to(opening(p, shown), next, h.generation, shown, Touch::Keep),
+        Move::More(at) => turn_to(
+            following(p, held, at),
+            false,
+            g,
+            held,
+            Touch::Place(place_of(at)),
+        ),
+        Move::Skip => turn_to(Phase::Close(true), false, g, held, Touch::Keep),
+        Move::Acknowledge => turn_to(Phase::Ack, false, g, held, Touch::Keep),
+    }
+}
