@@ -9,8 +9,9 @@
 # make demo      shows a collection that a capture interrupts
 # make bench     measures serving and collecting against memcpy and against nvme-cli, as ratios in one run (BENCH_MIB=512)
 # make clean     removes build/; what rt has proved stays in target/
-VERSION := 0.1.0
-SONAME := libbumbazeel.so.0
+version = $(shell sed -n 's/^\#define BUMBAZEEL_VERSION_$(1) //p' include/bumbazeel.h)
+VERSION := $(call version,MAJOR).$(call version,MINOR).$(call version,PATCH)
+SONAME := libbumbazeel.so.$(call version,MAJOR)
 PREFIX ?= /usr/local
 CFLAGS ?= -O2 -Wall -Wextra
 INSTALL ?= install

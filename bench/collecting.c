@@ -15,7 +15,7 @@
 #include <string.h>
 #include <time.h>
 
-enum { BLOCK = 512, PAGE_07 = 7, AREA = 4, TURNS = 9, MIB = 1 << 20, MOST_MIB = 512 };
+enum { BLOCK = BUMBAZEEL_BLOCK, PAGE_07 = BUMBAZEEL_HOST_PAGE, AREA = 4, TURNS = 9, MIB = 1 << 20, MOST_MIB = 512 };
 static const double LIMIT = 1.25;
 
 /* called through a pointer that the compiler cannot see through, so that it is the C library's */

@@ -16,9 +16,30 @@
 
 #ifdef __cplusplus
 extern "C" {
+#define BUMBAZEEL_ASSERT(test, text) static_assert(test, text)
+#else
+#define BUMBAZEEL_ASSERT(test, text) _Static_assert(test, text)
 #endif
 
-/* ---- answers (document 01's numbers) */
+/* ---- the version of this file and of the library that it belongs to */
+#define BUMBAZEEL_VERSION_MAJOR 0
+#define BUMBAZEEL_VERSION_MINOR 1
+#define BUMBAZEEL_VERSION_PATCH 0
+
+/* ---- the pages, and the limits that the functions hold their arguments to */
+enum {
+    BUMBAZEEL_HOST_PAGE = 0x07,         /* telemetry host-initiated */
+    BUMBAZEEL_CONTROLLER_PAGE = 0x08,   /* telemetry controller-initiated */
+    BUMBAZEEL_BLOCK = 512,              /* bytes of a block, and of the header */
+    BUMBAZEEL_REASON = 128,             /* bytes of a reason */
+    BUMBAZEEL_LAST_OF_AREA_3 = 65535,   /* the greatest last block of areas 1 to 3 */
+    BUMBAZEEL_LAST_OF_AREA_4 = 1048576, /* and of area 4 */
+    BUMBAZEEL_MOST_BLOCKS = 8192,       /* blocks of one command */
+    BUMBAZEEL_MOST_ATTEMPTS = 256,
+    BUMBAZEEL_MOST_ROOM = 536870912 /* bytes of a copy */
+};
+
+/* ---- answers (docs/RULES.md has them all) */
 enum {
     BUMBAZEEL_SUCCESS = 0,
     BUMBAZEEL_INVALID_FIELD = 1,     /* Invalid Field in Command (generic status 02h) */
@@ -62,13 +83,23 @@ struct bumbazeel_fields {
     uint32_t last[4];              /*  12: last blocks of areas 1 to 4 */
     uint8_t reason[128];           /*  28 */
 };
+BUMBAZEEL_ASSERT(sizeof(struct bumbazeel_fields) == 156, "struct bumbazeel_fields has 156 bytes");
+
+/* What a collection awaits. */
+enum {
+    BUMBAZEEL_AWAITS_FIRST_HEADER = 0,
+    BUMBAZEEL_AWAITS_CHUNK = 1,
+    BUMBAZEEL_AWAITS_CLOSING_HEADER = 2,
+    BUMBAZEEL_AWAITS_CLOSING_HEADER_AFTER_REFUSAL = 3, /* of a chunk */
+    BUMBAZEEL_AWAITS_ACKNOWLEDGEMENT = 4,
+    BUMBAZEEL_AWAITS_NOTHING = 5 /* it has ended */
+};
 
 /* A collection's state. 56 bytes. Lend it back as it was given. One that is damaged (`phase` over 5, `create` over 1, `caps` over 31, `zero`
  * not zero, or `at` not zero in a phase other than 1) gets 13, and so does one whose numbers break setup's limits, whose `attempt` is not 1 to
  * `attempts`, whose `count` is over 2 + `attempts` * 1,048,577, whose area does not fit `room`, or whose chunk starts outside the area. */
 struct bumbazeel_state {
-    uint8_t phase;      /*  0: what is awaited: 0 first header, 1 chunk, 2 closing header, 3 closing header after a refused chunk,
-                               4 acknowledgement, 5 nothing (ended) */
+    uint8_t phase;      /*  0: what is awaited, one of those above */
     uint8_t page;       /*  1 */
     uint8_t create;     /*  2: 0 or 1 */
     uint8_t area;       /*  3: wanted area */
@@ -83,6 +114,7 @@ struct bumbazeel_state {
     uint64_t count;     /* 32: commands sent */
     uint32_t last[4];   /* 40: last blocks of the attempt's header */
 };
+BUMBAZEEL_ASSERT(sizeof(struct bumbazeel_state) == 56, "struct bumbazeel_state has 56 bytes");
 
 /* What follows a setup or a step. 32 bytes. */
 struct bumbazeel_next {
@@ -93,6 +125,7 @@ struct bumbazeel_next {
     uint32_t words[5]; /*  4: the next command, CDW10 to CDW14; zeros if there is none */
     uint64_t count;    /* 24: with an ending, the number of commands sent; else 0 */
 };
+BUMBAZEEL_ASSERT(sizeof(struct bumbazeel_next) == 32, "struct bumbazeel_next has 32 bytes");
 enum { BUMBAZEEL_SEND = 0, BUMBAZEEL_ENDED = 1, BUMBAZEEL_REFUSED = 2 };
 
 /* A controller's record. 300 bytes. Fill it in by hand or with bumbazeel_fresh; one that is damaged (`caps` over 31, `notice` over 1,
@@ -112,6 +145,7 @@ struct bumbazeel_record {
     uint8_t host_reason[128];      /*  44 */
     uint8_t controller_reason[128];/* 172 */
 };
+BUMBAZEEL_ASSERT(sizeof(struct bumbazeel_record) == 300, "struct bumbazeel_record has 300 bytes");
 
 /* ---- host side */
 
@@ -153,6 +187,33 @@ uint8_t bumbazeel_command(struct bumbazeel_record *record, uint8_t *host_store, 
 uint8_t bumbazeel_capture(struct bumbazeel_record *record, const uint8_t *host_store, size_t host_bytes, uint8_t *controller_store,
                           size_t controller_bytes, const uint32_t last[4], const uint8_t *candidate, size_t candidate_bytes,
                           const uint8_t *reason, size_t reason_bytes);
+
+/* What a command and a capture are lent, in one place. A command reads the candidate at a create on 07h alone. */
+struct bumbazeel_lent {
+    struct bumbazeel_record *record;
+    uint8_t *host_store;
+    size_t host_bytes;
+    uint8_t *controller_store;
+    size_t controller_bytes;
+    uint32_t last[4]; /* the candidate's last blocks, bytes and reason */
+    const uint8_t *candidate;
+    size_t candidate_bytes;
+    const uint8_t *reason;
+    size_t reason_bytes;
+};
+
+/* bumbazeel_command and bumbazeel_capture on what is lent. */
+static inline uint8_t bumbazeel_command_on(const struct bumbazeel_lent *lent, const uint32_t words[5], uint8_t *buffer, size_t buffer_bytes,
+                                           uint8_t *identifier_class) {
+    return bumbazeel_command(lent->record, lent->host_store, lent->host_bytes, lent->controller_store, lent->controller_bytes, lent->last,
+                             lent->candidate, lent->candidate_bytes, lent->reason, lent->reason_bytes, words, buffer, buffer_bytes,
+                             identifier_class);
+}
+
+static inline uint8_t bumbazeel_capture_on(const struct bumbazeel_lent *lent) {
+    return bumbazeel_capture(lent->record, lent->host_store, lent->host_bytes, lent->controller_store, lent->controller_bytes, lent->last,
+                             lent->candidate, lent->candidate_bytes, lent->reason, lent->reason_bytes);
+}
 
 /* ---- numbers */
 

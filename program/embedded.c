@@ -11,7 +11,7 @@
 #include <stdio.h>
 #include <string.h>
 
-enum { PAGE_07 = 7, PAGE_08 = 8, SCOPE_CONTROLLER = 1 };
+enum { SCOPE_CONTROLLER = 1 };
 static const uint32_t CREATE_BIT = 1u << 8;
 static const uint16_t INTERNAL_ERROR = 0x0006; /* the generic status of a drive that cannot say more */
 static const uint32_t OUI = 0x02425A; /* a locally administered one: nobody's */
@@ -63,10 +63,24 @@ static struct candidate no_candidate(void) {
     return c;
 }
 
+static struct bumbazeel_lent lent(const struct candidate *c) {
+    struct bumbazeel_lent lent = {.record = &here.record,
+                                  .host_store = here.host,
+                                  .host_bytes = here.host_bytes,
+                                  .controller_store = here.controller,
+                                  .controller_bytes = here.controller_bytes,
+                                  .candidate = c->bytes,
+                                  .candidate_bytes = c->count,
+                                  .reason = c->reason,
+                                  .reason_bytes = c->reason_bytes};
+    memcpy(lent.last, c->last, sizeof lent.last);
+    return lent;
+}
+
 static uint8_t command(const struct candidate *c, const uint32_t words[5], uint8_t *data, size_t bytes) {
+    struct bumbazeel_lent all = lent(c);
     uint8_t identifier_class;
-    return bumbazeel_command(&here.record, here.host, here.host_bytes, here.controller, here.controller_bytes, c->last, c->bytes, c->count,
-                             c->reason, c->reason_bytes, words, data, bytes, &identifier_class);
+    return bumbazeel_command_on(&all, words, data, bytes, &identifier_class);
 }
 
 /* A command of another host, which reads the header of the page. */
@@ -79,10 +93,8 @@ static uint8_t others_command(uint8_t create, uint8_t rae, const struct candidat
 
 static void capture(const uint32_t areas[4]) {
     struct candidate c = next_candidate(areas);
-    uint8_t answer = here.page == PAGE_07
-                         ? others_command(1, 1, &c)
-                         : bumbazeel_capture(&here.record, here.host, here.host_bytes, here.controller, here.controller_bytes, c.last,
-                                             c.bytes, c.count, c.reason, c.reason_bytes);
+    struct bumbazeel_lent all = lent(&c);
+    uint8_t answer = here.page == BUMBAZEEL_HOST_PAGE ? others_command(1, 1, &c) : bumbazeel_capture_on(&all);
     if (answer)
         die("the embedded drive takes no capture of areas %u,%u,%u,%u on page %02Xh: %u (%s)", (unsigned)areas[0], (unsigned)areas[1],
             (unsigned)areas[2], (unsigned)areas[3], here.page, answer, meaning(answer));
@@ -118,7 +130,7 @@ static enum completion embedded_send(struct drive *drive, const uint32_t words[5
         drive->refusal = INTERNAL_ERROR;
         return REFUSED;
     }
-    bool create = here.page == PAGE_07 && words[0] & CREATE_BIT;
+    bool create = here.page == BUMBAZEEL_HOST_PAGE && words[0] & CREATE_BIT;
     struct candidate c = create ? next_candidate(here.plan.areas) : no_candidate();
     uint8_t answer = command(&c, words, data, bytes);
     if (answer)
@@ -146,8 +158,8 @@ struct drive *embedded_open(uint8_t page, const struct embedded *plan) {
                                 .send = embedded_send};
     here.plan = *plan;
     here.page = page;
-    here.host_bytes = page == PAGE_07 ? bytes : 0;
-    here.controller_bytes = page == PAGE_08 ? bytes : 0;
+    here.host_bytes = page == BUMBAZEEL_HOST_PAGE ? bytes : 0;
+    here.controller_bytes = page == BUMBAZEEL_CONTROLLER_PAGE ? bytes : 0;
     here.host = lazy_bytes(here.host_bytes);
     here.controller = lazy_bytes(here.controller_bytes);
     here.spare = lazy_bytes(bytes);

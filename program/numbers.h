@@ -1,15 +1,17 @@
-/* The paper's numbers that the program names: for messages, for buffers and for the reading of the command line. */
+/* The header file's numbers under the program's short names: for messages, for buffers and for the reading of the command line. */
 #ifndef NUMBERS_H
 #define NUMBERS_H
 
+#include "bumbazeel.h"
+
 enum {
-    BLOCK = 512, /* bytes, of a header too */
-    REASON = 128,
-    MOST_BLOCKS = 8192, /* of one command */
-    MOST_ATTEMPTS = 256,
-    MOST_ROOM = 536870912,
-    LAST_OF_AREA_3 = 65535, /* at most */
-    LAST_OF_AREA_4 = 1048576
+    BLOCK = BUMBAZEEL_BLOCK,
+    REASON = BUMBAZEEL_REASON,
+    MOST_BLOCKS = BUMBAZEEL_MOST_BLOCKS,
+    MOST_ATTEMPTS = BUMBAZEEL_MOST_ATTEMPTS,
+    MOST_ROOM = BUMBAZEEL_MOST_ROOM,
+    LAST_OF_AREA_3 = BUMBAZEEL_LAST_OF_AREA_3,
+    LAST_OF_AREA_4 = BUMBAZEEL_LAST_OF_AREA_4
 };
 
 #endif

@@ -19,7 +19,6 @@
 #include <stdio.h>
 #include <string.h>
 
-enum { AWAITS_FIRST_HEADER = 0, AWAITS_CHUNK = 1, AWAITS_CLOSING_HEADER = 2, AWAITS_ACKNOWLEDGEMENT = 4 }; /* phases of a state */
 enum { GROWTH_PART = 8, LEAST_GROWTH = 128 * BLOCK }; /* what a later attempt may take more */
 
 struct under_way {
@@ -128,11 +127,11 @@ static bool exchange(struct under_way *r) {
     bool ok = completion == SUCCEEDED;
     if (completion == LOST)
         return false;
-    if (ok && phase == AWAITS_CHUNK)
+    if (ok && phase == BUMBAZEEL_AWAITS_CHUNK)
         r->moved += bytes;
-    if (ok && phase == AWAITS_CLOSING_HEADER)
+    if (ok && phase == BUMBAZEEL_AWAITS_CLOSING_HEADER)
         memcpy(r->image, r->data, BLOCK);
-    if (phase == AWAITS_FIRST_HEADER)
+    if (phase == BUMBAZEEL_AWAITS_FIRST_HEADER)
         make_room(r, r->state.create);
     take(r, ok, bytes);
     return true;
@@ -141,7 +140,7 @@ static bool exchange(struct under_way *r) {
 /* Whether the library has just found the copy to be one capture. */
 static bool copy_stands(const struct under_way *r) {
     bool ended_on_07 = r->wish->page == 7 && r->next.kind == BUMBAZEEL_ENDED && r->next.answer == BUMBAZEEL_SUCCESS;
-    return ended_on_07 || (r->next.kind == BUMBAZEEL_SEND && r->state.phase == AWAITS_ACKNOWLEDGEMENT);
+    return ended_on_07 || (r->next.kind == BUMBAZEEL_SEND && r->state.phase == BUMBAZEEL_AWAITS_ACKNOWLEDGEMENT);
 }
 
 /* Whether the closing header shows other last blocks than the header that opened the attempt, though its generation matched: 256 captures
@@ -202,7 +201,7 @@ static void put_report(const struct under_way *r) {
 
 /* The next command. False: the run goes no further. */
 static bool advance(struct under_way *r) {
-    if (r->wish->progress && r->state.phase == AWAITS_FIRST_HEADER && r->wish->create)
+    if (r->wish->progress && r->state.phase == BUMBAZEEL_AWAITS_FIRST_HEADER && r->wish->create)
         progress_wait("waiting for the drive to take a capture");
     if (!exchange(r))
         return false;
@@ -221,7 +220,7 @@ void run(struct drive *drive, const struct wish *wish) {
         puts("cdw10 cdw11 cdw12 cdw13 cdw14");
     while (going && r.next.kind == BUMBAZEEL_SEND) {
         stop_here();
-        going = r.state.phase == AWAITS_ACKNOWLEDGEMENT ? acknowledge(&r) : advance(&r);
+        going = r.state.phase == BUMBAZEEL_AWAITS_ACKNOWLEDGEMENT ? acknowledge(&r) : advance(&r);
     }
     progress_hide();
     if (copy_stands(&r) && wish->page == 7)

@@ -6,15 +6,8 @@
 #include <stdlib.h>
 #include <string.h>
 
-#ifdef __cplusplus
-#define FIXED(test, text) static_assert(test, text)
-#else
-#define FIXED(test, text) _Static_assert(test, text)
-#endif
-#define SIZE(type, bytes) FIXED(sizeof(struct type) == bytes, "size of " #type)
-#define AT(type, field, bytes) FIXED(offsetof(struct type, field) == bytes, "offset of " #type "." #field)
+#define AT(type, field, bytes) BUMBAZEEL_ASSERT(offsetof(struct type, field) == bytes, "offset of " #type "." #field)
 
-SIZE(bumbazeel_fields, 156);
 AT(bumbazeel_fields, page, 0);
 AT(bumbazeel_fields, scope, 1);
 AT(bumbazeel_fields, host_generation, 2);
@@ -25,7 +18,6 @@ AT(bumbazeel_fields, oui, 8);
 AT(bumbazeel_fields, last, 12);
 AT(bumbazeel_fields, reason, 28);
 
-SIZE(bumbazeel_state, 56);
 AT(bumbazeel_state, phase, 0);
 AT(bumbazeel_state, page, 1);
 AT(bumbazeel_state, create, 2);
@@ -41,7 +33,6 @@ AT(bumbazeel_state, room, 24);
 AT(bumbazeel_state, count, 32);
 AT(bumbazeel_state, last, 40);
 
-SIZE(bumbazeel_next, 32);
 AT(bumbazeel_next, kind, 0);
 AT(bumbazeel_next, answer, 1);
 AT(bumbazeel_next, newer, 2);
@@ -49,7 +40,6 @@ AT(bumbazeel_next, zero, 3);
 AT(bumbazeel_next, words, 4);
 AT(bumbazeel_next, count, 24);
 
-SIZE(bumbazeel_record, 300);
 AT(bumbazeel_record, caps, 0);
 AT(bumbazeel_record, host_scope, 1);
 AT(bumbazeel_record, controller_scope, 2);
@@ -76,7 +66,7 @@ static void expect_at(int line, const char *text, int holds) {
 
 enum {
     CAPS = BUMBAZEEL_EXTENDED | BUMBAZEEL_TELEMETRY | BUMBAZEEL_DA4S | BUMBAZEEL_ETDAS | BUMBAZEEL_MCDAS,
-    BLOCK = 512,
+    BLOCK = BUMBAZEEL_BLOCK,
     BLOCKS = 4
 };
 
@@ -94,14 +84,29 @@ struct drive {
     uint32_t last[4];
 };
 
+static struct bumbazeel_lent lent(struct drive *d) {
+    struct bumbazeel_lent lent;
+    lent.record = &d->record;
+    lent.host_store = d->host;
+    lent.host_bytes = sizeof d->host;
+    lent.controller_store = d->controller;
+    lent.controller_bytes = sizeof d->controller;
+    memcpy(lent.last, d->last, sizeof lent.last);
+    lent.candidate = d->candidate;
+    lent.candidate_bytes = (size_t)d->last[3] * BLOCK;
+    lent.reason = d->reason;
+    lent.reason_bytes = sizeof d->reason;
+    return lent;
+}
+
 static uint8_t command(struct drive *d, const uint32_t words[5], uint8_t *buffer, size_t bytes) {
-    return bumbazeel_command(&d->record, d->host, sizeof d->host, d->controller, sizeof d->controller, d->last, d->candidate,
-                             (size_t)d->last[3] * BLOCK, d->reason, sizeof d->reason, words, buffer, bytes, &d->identifier_class);
+    struct bumbazeel_lent all = lent(d);
+    return bumbazeel_command_on(&all, words, buffer, bytes, &d->identifier_class);
 }
 
 static uint8_t capture(struct drive *d) {
-    return bumbazeel_capture(&d->record, d->host, sizeof d->host, d->controller, sizeof d->controller, d->last, d->candidate,
-                             (size_t)d->last[3] * BLOCK, d->reason, sizeof d->reason);
+    struct bumbazeel_lent all = lent(d);
+    return bumbazeel_capture_on(&all);
 }
 
 static void begin(struct drive *d) {
@@ -315,6 +320,26 @@ static void flags(void) {
     expect(bumbazeel_check(0x07, 0, header, sizeof header, &fields) == BUMBAZEEL_BAD_HEADER);
 }
 
+/* The limits and the phases that the header file names are the library's. */
+static void limits(void) {
+    struct bumbazeel_state state;
+    struct bumbazeel_next next;
+    uint32_t built[5];
+    const uint8_t page = BUMBAZEEL_HOST_PAGE;
+    const uint32_t blocks = BUMBAZEEL_MOST_BLOCKS, attempts = BUMBAZEEL_MOST_ATTEMPTS, last = BUMBAZEEL_LAST_OF_AREA_4;
+    const size_t room = BUMBAZEEL_MOST_ROOM;
+    expect(bumbazeel_setup(page, 0, 4, CAPS, blocks, attempts, room, &state, &next) == BUMBAZEEL_SEND);
+    expect(state.phase == BUMBAZEEL_AWAITS_FIRST_HEADER && state.room == (uint64_t)last * BLOCK);
+    expect(bumbazeel_setup(page, 0, 4, CAPS, blocks + 1, attempts, room, &state, &next) == BUMBAZEEL_REFUSED);
+    expect(bumbazeel_setup(page, 0, 4, CAPS, blocks, attempts + 1, room, &state, &next) == BUMBAZEEL_REFUSED);
+    expect(bumbazeel_setup(page, 0, 4, CAPS, blocks, attempts, room + BLOCK, &state, &next) == BUMBAZEEL_REFUSED);
+    expect(bumbazeel_setup(page, 0, 4, CAPS, blocks, attempts, room - BLOCK / 2, &state, &next) == BUMBAZEEL_REFUSED);
+    expect(next.answer == BUMBAZEEL_BAD_SETUP && state.phase == BUMBAZEEL_AWAITS_NOTHING);
+    expect(bumbazeel_words(BUMBAZEEL_CONTROLLER_PAGE, 0, 0, 1, last, blocks, built) == BUMBAZEEL_SUCCESS);
+    expect(bumbazeel_words(page, 0, 0, 1, last + 1, blocks, built) == BUMBAZEEL_BAD_SETUP);
+    expect(bumbazeel_words(page, 0, 0, 1, last, blocks + 1, built) == BUMBAZEEL_BAD_SETUP);
+}
+
 static void refused_setups(void) {
     struct bumbazeel_state state;
     struct bumbazeel_next next;
@@ -376,6 +401,7 @@ int main(void) {
     collection(0x08, 0, 5);
     large();
     flags();
+    limits();
     refused_setups();
     refused_steps();
     if (failures)

@@ -18,10 +18,9 @@
 #include <string.h>
 #include <sys/mman.h>
 
-enum { BLOCK = 512, REASON_BYTES = 128, MOST_BLOCKS = 16, MOST = MOST_BLOCKS * BLOCK, MOST_CALLS = 64 };
+enum { BLOCK = BUMBAZEEL_BLOCK, REASON_BYTES = BUMBAZEEL_REASON, MOST_BLOCKS = 16, MOST = MOST_BLOCKS * BLOCK, MOST_CALLS = 64 };
 enum { PAGE = 4096, MARGIN = 64, ROOM = MOST + PAGE }; /* of a slot */
-enum { HEADER_07 = 7, HEADER_08 = 8, CREATE_BIT = 1 << 8, RAE_BIT = 1 << 15 };
-enum { FIRST_HEADER, CHUNK, CLOSING, CLOSING_AFTER_REFUSAL, ACKNOWLEDGEMENT, ENDED_PHASE }; /* a state's phases */
+enum { HEADER_07 = BUMBAZEEL_HOST_PAGE, HEADER_08 = BUMBAZEEL_CONTROLLER_PAGE, CREATE_BIT = 1 << 8, RAE_BIT = 1 << 15 };
 static const uint64_t MOST_ATTEMPT_COMMANDS = 1048577;
 
 static void broken(const char *test, int line) {
@@ -144,7 +143,7 @@ static bool zeros(const void *bytes, size_t count) {
 static uint32_t little_endian(const uint8_t *at, int bytes) { return bytes ? at[0] | little_endian(at + 1, bytes - 1) << 8 : 0; }
 
 static bool last_blocks_keep_the_rule(const uint32_t last[4], bool da4s) {
-    return last[0] <= last[1] && last[1] <= last[2] && last[2] <= 65535 && last[3] <= 1048576 && (da4s ? last[3] >= last[2] : !last[3]) &&
+    return last[0] <= last[1] && last[1] <= last[2] && last[2] <= BUMBAZEEL_LAST_OF_AREA_3 && last[3] <= BUMBAZEEL_LAST_OF_AREA_4 && (da4s ? last[3] >= last[2] : !last[3]) &&
            (!last[3] || last[2]);
 }
 
@@ -461,10 +460,10 @@ static void command_is_awaited(void) {
     const struct bumbazeel_state *s = THE_STATE;
     const struct bumbazeel_next *next = THE_NEXT;
     uint32_t want[5];
-    uint8_t creates = s->phase == FIRST_HEADER && s->create;
-    uint32_t rest = s->phase == CHUNK ? s->last[s->area - 1] - s->at + 1 : 1, blocks = rest < s->chunk ? rest : s->chunk;
-    must(s->phase < ENDED_PHASE && (s->phase == CHUNK) == (s->at > 0));
-    must(!bumbazeel_words(s->page, creates, creates && s->caps & BUMBAZEEL_MCDAS ? s->area : 0, s->phase != ACKNOWLEDGEMENT, s->at, blocks,
+    uint8_t creates = s->phase == BUMBAZEEL_AWAITS_FIRST_HEADER && s->create;
+    uint32_t rest = s->phase == BUMBAZEEL_AWAITS_CHUNK ? s->last[s->area - 1] - s->at + 1 : 1, blocks = rest < s->chunk ? rest : s->chunk;
+    must(s->phase < BUMBAZEEL_AWAITS_NOTHING && (s->phase == BUMBAZEEL_AWAITS_CHUNK) == (s->at > 0));
+    must(!bumbazeel_words(s->page, creates, creates && s->caps & BUMBAZEEL_MCDAS ? s->area : 0, s->phase != BUMBAZEEL_AWAITS_ACKNOWLEDGEMENT, s->at, blocks,
                           want));
     must(!memcmp(next->words, want, sizeof want) && !next->answer && !next->newer && !next->count);
     must(!untouched || (s->count == sent && sent <= 2 + s->attempts * MOST_ATTEMPT_COMMANDS));
@@ -486,11 +485,11 @@ static void setup(void) {
     untouched = true;
     sent = kind == BUMBAZEEL_SEND;
     if (kind == BUMBAZEEL_SEND) {
-        must(THE_STATE->phase == FIRST_HEADER && THE_STATE->attempt == 1);
+        must(THE_STATE->phase == BUMBAZEEL_AWAITS_FIRST_HEADER && THE_STATE->attempt == 1);
         command_is_awaited();
     } else {
         must(kind == BUMBAZEEL_REFUSED && (THE_NEXT->answer == BUMBAZEEL_BAD_SETUP || THE_NEXT->answer == BUMBAZEEL_NO_AREA_4));
-        must(THE_STATE->phase == ENDED_PHASE && zeros(THE_NEXT->words, 20) && !THE_NEXT->newer && !THE_NEXT->count);
+        must(THE_STATE->phase == BUMBAZEEL_AWAITS_NOTHING && zeros(THE_NEXT->words, 20) && !THE_NEXT->newer && !THE_NEXT->count);
     }
 }
 
@@ -498,7 +497,7 @@ static void step_was_refused(const struct bumbazeel_state *before) {
     const struct bumbazeel_next *next = THE_NEXT;
     must(next->answer >= BUMBAZEEL_BAD_SETUP && next->answer <= BUMBAZEEL_DOES_NOT_FIT);
     must(zeros(next->words, 20) && !next->newer && !next->count);
-    must(!untouched || next->answer == (before->phase == ENDED_PHASE ? BUMBAZEEL_ALREADY_ENDED : BUMBAZEEL_DOES_NOT_FIT));
+    must(!untouched || next->answer == (before->phase == BUMBAZEEL_AWAITS_NOTHING ? BUMBAZEEL_ALREADY_ENDED : BUMBAZEEL_DOES_NOT_FIT));
 }
 
 static void run_ended(const struct bumbazeel_state *before) {
@@ -506,8 +505,8 @@ static void run_ended(const struct bumbazeel_state *before) {
     bool success = next->answer == BUMBAZEEL_SUCCESS;
     size_t kept = success ? (size_t)before->last[before->area - 1] * BLOCK : 0;
     must(success || (next->answer >= BUMBAZEEL_BAD_HEADER && next->answer <= BUMBAZEEL_BROKE_ITS_WORD));
-    must(THE_STATE->phase == ENDED_PHASE && zeros(next->words, 20) && next->newer <= (success && before->phase == ACKNOWLEDGEMENT));
-    must(!untouched || before->phase != ACKNOWLEDGEMENT || before->page == HEADER_08);
+    must(THE_STATE->phase == BUMBAZEEL_AWAITS_NOTHING && zeros(next->words, 20) && next->newer <= (success && before->phase == BUMBAZEEL_AWAITS_ACKNOWLEDGEMENT));
+    must(!untouched || before->phase != BUMBAZEEL_AWAITS_ACKNOWLEDGEMENT || before->page == HEADER_08);
     must(next->count == before->count && (!untouched || next->count == sent) && kept <= slots[COPY].bytes);
     if (slots[COPY].bytes)
         memset((uint8_t *)image(COPY) + kept, 0, slots[COPY].bytes - kept);
@@ -524,8 +523,8 @@ static void step(uint8_t ok) {
     if (kind == BUMBAZEEL_REFUSED) {
         step_was_refused(&before);
     } else {
-        must(before.phase < ENDED_PHASE && (before.phase != CHUNK || kind == BUMBAZEEL_SEND));
-        if (before.phase == CHUNK && ok)
+        must(before.phase < BUMBAZEEL_AWAITS_NOTHING && (before.phase != BUMBAZEEL_AWAITS_CHUNK || kind == BUMBAZEEL_SEND));
+        if (before.phase == BUMBAZEEL_AWAITS_CHUNK && ok)
             memcpy((uint8_t *)image(COPY) + (size_t)(before.at - 1) * BLOCK, slots[DATA].lent, slots[DATA].bytes);
         accept_all(STATE);
     }

@@ -33,7 +33,7 @@
 #include <unistd.h>
 
 enum { GET_LOG_PAGE = 0x02, IDENTIFY = 0x06, GET_FEATURES = 0x0A };
-enum { BLOCK = 512, REASON = 128, NVME_MAJOR = 243, INVALID_OPCODE = 0x0001, INVALID_FIELD = 0x0002 };
+enum { BLOCK = BUMBAZEEL_BLOCK, REASON = BUMBAZEEL_REASON, NVME_MAJOR = 243, INVALID_OPCODE = 0x0001, INVALID_FIELD = 0x0002 };
 static const uint32_t OUI = 0x02425A, RETAIN_EVENT = 1u << 15;
 
 static struct {
@@ -80,17 +80,30 @@ static void next_candidate(void) {
     snprintf((char *)drive.reason, REASON, "shim capture %u", n);
 }
 
+static struct bumbazeel_lent lent(void) {
+    struct bumbazeel_lent lent = {.record = &drive.record,
+                                  .host_store = drive.host,
+                                  .host_bytes = drive.bytes,
+                                  .controller_store = drive.controller,
+                                  .controller_bytes = drive.bytes,
+                                  .candidate = drive.candidate,
+                                  .candidate_bytes = drive.bytes,
+                                  .reason = drive.reason,
+                                  .reason_bytes = REASON};
+    memcpy(lent.last, drive.last, sizeof lent.last);
+    return lent;
+}
+
 static void take_08(void) {
     next_candidate();
-    must(!bumbazeel_capture(&drive.record, drive.host, drive.bytes, drive.controller, drive.bytes, drive.last, drive.candidate, drive.bytes,
-                            drive.reason, REASON),
-         "the capture is refused");
+    struct bumbazeel_lent all = lent();
+    must(!bumbazeel_capture_on(&all), "the capture is refused");
 }
 
 static uint8_t command(const uint32_t words[5], uint8_t *buffer, size_t bytes) {
+    struct bumbazeel_lent all = lent();
     uint8_t identifier_class;
-    return bumbazeel_command(&drive.record, drive.host, drive.bytes, drive.controller, drive.bytes, drive.last, drive.candidate, drive.bytes,
-                             drive.reason, REASON, words, buffer, bytes, &identifier_class);
+    return bumbazeel_command_on(&all, words, buffer, bytes, &identifier_class);
 }
 
 static void take_07(void) {
