@@ -20,6 +20,7 @@ BINDIR ?= $(PREFIX)/bin
 LIBDIR ?= $(PREFIX)/lib
 INCLUDEDIR ?= $(PREFIX)/include
 MANDIR ?= $(PREFIX)/share/man
+DOCDIR ?= $(PREFIX)/share/doc/bumbazeel
 COMPLETIONDIR ?= $(PREFIX)/share/bash-completion/completions
 
 .PHONY: all install uninstall faults test sanitize valgrind fuzz demo bench clean
@@ -76,13 +77,15 @@ install: all
 		program/bumbazeel.pc.in >build/bumbazeel.pc
 	$(INSTALL) -m 644 build/bumbazeel.pc $(DESTDIR)$(LIBDIR)/pkgconfig/bumbazeel.pc
 	$(INSTALL) -m 644 program/bumbazeel.1 $(DESTDIR)$(MANDIR)/man1/bumbazeel.1
-	$(INSTALL) -d $(DESTDIR)$(COMPLETIONDIR)
+	$(INSTALL) -d $(DESTDIR)$(COMPLETIONDIR) $(DESTDIR)$(DOCDIR)
+	$(INSTALL) -m 644 docs/RULES.md $(DESTDIR)$(DOCDIR)/RULES.md
 	$(INSTALL) -m 644 program/completion.bash $(DESTDIR)$(COMPLETIONDIR)/bumbazeel
 
 uninstall:
 	rm -f $(DESTDIR)$(BINDIR)/bumbazeel $(DESTDIR)$(INCLUDEDIR)/bumbazeel.h $(DESTDIR)$(LIBDIR)/libbumbazeel.a \
 		$(DESTDIR)$(LIBDIR)/libbumbazeel.so $(DESTDIR)$(LIBDIR)/$(SONAME) $(DESTDIR)$(LIBDIR)/libbumbazeel.so.$(VERSION) \
-		$(DESTDIR)$(LIBDIR)/pkgconfig/bumbazeel.pc $(DESTDIR)$(MANDIR)/man1/bumbazeel.1 $(DESTDIR)$(COMPLETIONDIR)/bumbazeel
+		$(DESTDIR)$(LIBDIR)/pkgconfig/bumbazeel.pc $(DESTDIR)$(MANDIR)/man1/bumbazeel.1 $(DESTDIR)$(COMPLETIONDIR)/bumbazeel \
+		$(DESTDIR)$(DOCDIR)/RULES.md
 
 test:
 	@tests/run

@@ -39,7 +39,7 @@ enum {
     BUMBAZEEL_MOST_ROOM = 536870912 /* bytes of a copy */
 };
 
-/* ---- answers (docs/RULES.md has them all) */
+/* ---- answers; RULES.md (share/doc/bumbazeel) says when each is given */
 enum {
     BUMBAZEEL_SUCCESS = 0,
     BUMBAZEEL_INVALID_FIELD = 1,     /* Invalid Field in Command (generic status 02h) */
@@ -163,7 +163,7 @@ uint8_t bumbazeel_setup(uint8_t page, uint8_t create, uint8_t area, uint8_t caps
                         struct bumbazeel_state *state, struct bumbazeel_next *next);
 
 /* Takes the completion of the awaited command: whether it succeeded, and its data (none with a refusal). Answers next->kind.
- * BUMBAZEEL_SEND: a good chunk was written to its place in the copy, and the next command is awaited. BUMBAZEEL_ENDED: with success
+ * BUMBAZEEL_SEND: the next command is awaited, and a chunk that came was written to its place in the copy. BUMBAZEEL_ENDED: with success
  * the copy holds the wanted area and zeros after it, else zeros alone. BUMBAZEEL_REFUSED: 14, 13 or 15; state and copy are as they
  * were. *next is always written. */
 uint8_t bumbazeel_step(struct bumbazeel_state *state, uint8_t ok, const uint8_t *data, size_t bytes, uint8_t *copy, size_t room,
