@@ -87,6 +87,13 @@ clearedOf r = record {
 abbrev pub keptIn : List ℕ → Candidate → ℕ → List ℕ
 keptIn store candidate blocks = putAt store 0 (take (block * blocks) (candidate .bytes))
 
+-- the record and the host store after a command's own capture, if it makes one: what its reason has past 128 bytes is not kept
+abbrev pub recordMade : Record → Command → List ℕ → List ℕ → Record
+recordMade r c last reason = pick (c .create) (hostTaken r (trimOf (r .caps) (c .mcda) last) (putAt (zeros 128) 0 reason)) r
+
+abbrev pub storeMade : Record → Command → List ℕ → List ℕ → List ℕ → List ℕ
+storeMade r c last bytes store = pick (c .create) (putAt store 0 (take (block * lastOf (topOf (r .caps) (c .mcda)) last) bytes)) store
+
 -- a host capture under an MCDA
 unfoldable pub hostCaptured : World → Candidate → ℕ → World
 hostCaptured w candidate mcda =

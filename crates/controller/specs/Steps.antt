@@ -3,13 +3,13 @@
 use Prim.Native.Nat.{ℕ, _*_, _≤_}
 use mathlib.Core.Path.{_≡_, refl, sym, ap, subst, _∙_}
 use mathlib.Core.List.{List, []}
-use mathlib.Core.Bool.{Bool, true, false, not}
+use mathlib.Core.Bool.{Bool, true, false, not, _&&_}
 use native.Mathlib.Omega.{arith}
 use lib.ListN.{length, take}
 use lib.Dec.{eqb}
 use borrow.Author.Tests.{eqb-true, ne-eqb}
 use Rattle.choices.specs.Choice.{pick, pick-cases}
-use Rattle.choices.specs.Tests.{and-left, or-cases}
+use Rattle.choices.specs.Tests.{by-test, and-left, or-cases}
 use Rattle.copies.specs.Parts.{zeros, putAt, put-length, put-whole}
 use Rattle.answers.specs.Answers.{success}
 use Rattle.pages.specs.declared.Caps.{Caps}
@@ -26,7 +26,7 @@ use Rattle.serving.specs.Serving.{servedInto, served-fits}
 use Rattle.verdicts.specs.Verdicts.{commandAnswer, captureAnswer}
 use Rattle.verdicts.specs.Accepted.{Whole, Accepted, accepted, captures, kept-lent}
 use Rattle.controller.specs.declared.Answered.{Answered}
-use Rattle.controller.specs.Controller.{World, world, Candidate, storeFor, pageOf, hostTaken, controllerTaken, clearedOf, hostCaptured, controllerCaptured, outcome, Outcome, classFor, lentBy, before, sentOf, afterwards, answered, commandOf, captureAnswered, captureOf}
+use Rattle.controller.specs.Controller.{World, world, Candidate, storeFor, pageOf, hostTaken, controllerTaken, clearedOf, recordMade, storeMade, hostCaptured, controllerCaptured, outcome, Outcome, classFor, lentBy, before, sentOf, afterwards, answered, commandOf, captureAnswered, captureOf}
 
 -- ---- what the words say of create
 
@@ -34,11 +34,6 @@ pub create-host : (extended : Bool) (words : Words) (c : Command) → c ≡ read
 create-host extended words c e h =
     let p : readOf extended words .create ≡ true = sym (ap (λ (d : Command). d .create) e) ∙ h in
     ap (λ (d : Command). d .page) e ∙ eqb-true _ hostPage (and-left _ _ p)
-
-pub host-only : (extended : Bool) (words : Words) (c : Command) → c ≡ readOf extended words → (c .page ≡ hostPage → ⊥) → c .create ≡ false
-host-only extended words c e n =
-    ap (λ (d : Command). d .create) e
-    ∙ rw (ne-eqb (readOf extended words .page) hostPage (λ q. n (ap (λ (d : Command). d .page) e ∙ q)))
 
 -- a page's blocks are no more than its greatest last block
 pub blocks-greatest : (caps : Caps) (a : List ℕ) → blocksOf caps a ≤ greatestOf a
@@ -130,65 +125,48 @@ agreed-fits w g page p =
 reason-whole : (reason rs : List ℕ) → length reason ≡ 128 → rs ≡ putAt (zeros 128) 0 reason → rs ≡ reason
 reason-whole reason rs l e = e ∙ put-whole (zeros 128) reason (sym l)
 
-pub created-is : (w : World) (candidate : Candidate) (c : Command) (buf : List ℕ) (x : ℕ) (y : Answered) {m kept : ℕ} {last rs h b : List ℕ} {next : Record}
-    → x ≡ success → Accepted (w .own) c (candidate .last) (lentBy w candidate buf) → c .create ≡ true → c .page ≡ hostPage
-    → m ≡ topOf (w .own .caps) (c .mcda) → kept ≡ lastOf m (candidate .last) → h ≡ putAt (w .host) 0 (take (512 * kept) (candidate .bytes))
-    → last ≡ trimOf (w .own .caps) (c .mcda) (candidate .last) → rs ≡ putAt (zeros 128) 0 (candidate .reason) → next ≡ hostTaken (w .own) last rs
-    → b ≡ servedInto (headerOf (fieldsFor hostPage next)) h (blocksOf (next .caps) (fieldsFor hostPage next .last)) (c .offset) (c .bytes) buf
-    → y ≡ record { answer = x; class = 0; own = next }
+-- what a create leaves is the world before the transfer
+made-is : (w : World) (candidate : Candidate) (c : Command) (buf : List ℕ) → Accepted (w .own) c (candidate .last) (lentBy w candidate buf)
+    → world (recordMade (w .own) c (candidate .last) (candidate .reason)) (storeMade (w .own) c (candidate .last) (candidate .bytes) (w .host)) (w .controller)
+    ≡ before w candidate c
+unfolding before hostCaptured
+made-is w candidate c buf g =
+    by-test (c .create)
+    (λ t. rw (t, reason-whole (candidate .reason) _ (g .candidate t .long) refl))
+    (λ t. rw t)
+
+-- whose page lies in its store
+made-fits : (w : World) (candidate : Candidate) (c : Command) (buf : List ℕ) → Accepted (w .own) c (candidate .last) (lentBy w candidate buf)
+    → (c .create ≡ true → c .page ≡ hostPage) → Fits (c .page) (before w candidate c)
+made-fits w candidate c buf g host =
+    by-test (c .create)
+    (λ t. rw (captured w candidate c t, host t) (captured-fits w candidate (c .mcda) (g .candidate t)))
+    (λ t. rw (no-capture w candidate c t) (agreed-fits w (g .agrees) (c .page) (g .served)))
+
+-- judged, made, sent and acknowledged: what a success leaves
+pub served-is : (w : World) (candidate : Candidate) (c : Command) (buf : List ℕ) (x : ℕ) (y : Answered) {next after : Record} {h b : List ℕ}
+    → x ≡ success → Accepted (w .own) c (candidate .last) (lentBy w candidate buf) → (c .create ≡ true → c .page ≡ hostPage)
+    → (next ≡ recordMade (w .own) c (candidate .last) (candidate .reason)) × (h ≡ storeMade (w .own) c (candidate .last) (candidate .bytes) (w .host))
+    → b ≡ servedInto (headerOf (fieldsFor (c .page) next)) (pick (eqb (c .page) hostPage) h (w .controller)) (blocksOf (next .caps) (fieldsFor (c .page) next .last)) (c .offset) (c .bytes) buf
+    → after ≡ pick (eqb (c .page) controllerPage && not (c .rae)) (clearedOf next) next
+    → y ≡ record { answer = x; class = 0; own = after }
     → outcome (y .answer) (y .class) (world (y .own) h (w .controller)) b ≡ answered w candidate c buf x
-unfolding hostCaptured
-created-is w candidate c buf x y {h = h} {b = b} {next = next} z g t p em ek eh el er en eb ey =
-    let whole = g .candidate t in
-    let es = reason-whole (candidate .reason) _ (whole .long) er in
-    let ew : world next h (w .controller) ≡ hostCaptured w candidate (c .mcda) = rw (en, eh, ek, em, el, es) in
-    let eb′ = ew ∙ sym (captured w candidate c t) in
-    let fits : Fits hostPage (world next h (w .controller)) = subst (λ (v : World). Fits hostPage v) (sym ew) (captured-fits w candidate (c .mcda) whole) in
-    done-is w candidate c buf b x (world next h (w .controller)) y z ey
-    (eb′ ∙ sym (host-stays (before w candidate c) c p))
-    (sent-is (world next h (w .controller)) c hostPage buf b p fits (g .room) eb ∙ ap (λ (v : World). sentOf v c buf) eb′)
-
-pub host-read-is : (w : World) (candidate : Candidate) (c : Command) (buf b : List ℕ) (x : ℕ) (y : Answered)
-    → x ≡ success → Accepted (w .own) c (candidate .last) (lentBy w candidate buf) → c .create ≡ false → c .page ≡ hostPage
-    → b ≡ servedInto (headerOf (fieldsFor hostPage (w .own))) (w .host) (blocksOf (w .own .caps) (fieldsFor hostPage (w .own) .last)) (c .offset) (c .bytes) buf
-    → y ≡ record { answer = x; class = 0; own = w .own }
-    → outcome (y .answer) (y .class) (world (y .own) (w .host) (w .controller)) b ≡ answered w candidate c buf x
-host-read-is w candidate c buf b x y z g t p eb ey =
-    let n = no-capture w candidate c t in
-    done-is w candidate c buf b x w y z ey
-    (sym n ∙ sym (host-stays (before w candidate c) c p))
-    (sent-is w c hostPage buf b p (agreed-fits w (g .agrees) hostPage refl) (g .room) eb ∙ ap (λ (v : World). sentOf v c buf) (sym n))
-
-pub controller-page : (page : ℕ) → telemetryPage page ≡ true → (page ≡ hostPage → ⊥) → page ≡ controllerPage
-controller-page page e n = or-cases (eqb page hostPage) (eqb page controllerPage) e (λ q. absurd (n (eqb-true page hostPage q))) (λ q. eqb-true page controllerPage q)
-
--- on 08h RAE 0 clears
-pub acknowledged : (w : World) (c : Command) → c .page ≡ controllerPage
-    → afterwards w c ≡ world (pick (c .rae) (w .own) (clearedOf (w .own))) (w .host) (w .controller)
 unfolding afterwards
-acknowledged w c p = rw p (by-rae (c .rae))
-  where
-    by-rae : (t : Bool) → pick (not t) (world (clearedOf (w .own)) (w .host) (w .controller)) w ≡ world (pick t (w .own) (clearedOf (w .own))) (w .host) (w .controller)
-    by-rae true = refl
-    by-rae false = refl
-
-pub controller-read-is : (w : World) (candidate : Candidate) (c : Command) (buf b : List ℕ) (x : ℕ) (y : Answered) {e n : Record}
-    → x ≡ success → Accepted (w .own) c (candidate .last) (lentBy w candidate buf) → c .create ≡ false → (c .page ≡ hostPage → ⊥)
-    → b ≡ servedInto (headerOf (fieldsFor controllerPage (w .own))) (w .controller) (blocksOf (w .own .caps) (fieldsFor controllerPage (w .own) .last)) (c .offset) (c .bytes) buf
-    → e ≡ clearedOf (w .own) → n ≡ pick (c .rae) (w .own) e → y ≡ record { answer = x; class = 0; own = n }
-    → outcome (y .answer) (y .class) (world (y .own) (w .host) (w .controller)) b ≡ answered w candidate c buf x
-controller-read-is w candidate c buf b x y {e = e} {n = n} z g t p eb ee en ey =
-    let k = no-capture w candidate c t in
-    let q = controller-page (c .page) (g .served) p in
-    done-is w candidate c buf b x (world n (w .host) (w .controller)) y z ey
-    (rw (en, ee) (sym (acknowledged w c q)) ∙ ap (λ (v : World). afterwards v c) (sym k))
-    (sent-is w c controllerPage buf b q (agreed-fits w (g .agrees) controllerPage refl) (g .room) eb ∙ ap (λ (v : World). sentOf v c buf) (sym k))
+served-is w candidate c buf x y {next = next} {after = after} {h = h} {b = b} z g host em eb ea ey =
+    let v : World = world next h (w .controller) in
+    let ev : v ≡ before w candidate c = rw (em .0, em .1) (made-is w candidate c buf g) in
+    let fits : Fits (c .page) v = subst (λ (u : World). Fits (c .page) u) (sym ev) (made-fits w candidate c buf g host) in
+    let ew : world after h (w .controller) ≡ afterwards v c =
+    rw ea (by-test (eqb (c .page) controllerPage && not (c .rae)) (λ t. rw t) (λ t. rw t)) in
+    done-is w candidate c buf b x (world after h (w .controller)) y z ey
+    (ew ∙ ap (λ (u : World). afterwards u c) ev)
+    (sent-is v c (c .page) buf b refl fits (g .room) eb ∙ ap (λ (u : World). sentOf u c buf) ev)
 
 -- the candidate's bytes that a create keeps were lent
-pub create-lent : (w : World) (candidate : Candidate) (c : Command) (buf : List ℕ) {m kept : ℕ}
-    → Accepted (w .own) c (candidate .last) (lentBy w candidate buf) → c .create ≡ true → m ≡ topOf (w .own .caps) (c .mcda) → kept ≡ lastOf m (candidate .last)
-    → 512 * kept ≤ length (candidate .bytes)
-create-lent w candidate c buf g t em ek = rw (ek, em)
+pub create-lent : (w : World) (candidate : Candidate) (c : Command) (buf : List ℕ)
+    → Accepted (w .own) c (candidate .last) (lentBy w candidate buf) → c .create ≡ true
+    → 512 * lastOf (topOf (w .own .caps) (c .mcda)) (candidate .last) ≤ length (candidate .bytes)
+create-lent w candidate c buf g t =
     (kept-lent (topOf (w .own .caps) (c .mcda)) (candidate .last) (length (candidate .bytes)) (length (candidate .reason)) (length (w .host)) (g .candidate t))
 
 -- ---- the paths of a capture on 08h

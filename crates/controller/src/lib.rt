@@ -11,15 +11,17 @@ use words::Command;
 use words::Words;
 ghost use mathlib.Core.Path.{_≡_};
 ghost use mathlib.Core.List.{[]};
+ghost use mathlib.Core.Bool.{true, not, _&&_};
 ghost use Prim.Native.Nat.{_*_, _≤_};
 ghost use lib.ListN.{length, take};
 ghost use Rattle.choices.specs.Choice.{pick};
 ghost use Rattle.copies.specs.Parts.{putAt, zeros};
-ghost use Rattle.pages.specs.Pages.{blocksOf};
+ghost use lib.Dec.{eqb};
+ghost use Rattle.pages.specs.Pages.{hostPage, controllerPage, lastOf, blocksOf, topOf};
 ghost use Rattle.header.specs.Header.{headerOf};
 ghost use Rattle.records.specs.Records.{fieldsFor};
 ghost use Rattle.serving.specs.Serving.{servedInto};
-ghost use Rattle.controller.specs.Controller.{hostTaken, controllerTaken, clearedOf, classFor, world, candidateOf, outcome, commandOf, captureOf};
+ghost use Rattle.controller.specs.Controller.{hostTaken, controllerTaken, clearedOf, recordMade, storeMade, classFor, world, candidateOf, outcome, commandOf, captureOf};
 
 // The answer, with the identifier's class where it is 2 (else 0), and the record afterwards.
 pub struct Answered {
@@ -120,13 +122,53 @@ fn keep(bytes: &[u8], blocks: u32, store: &mut [u8])
     copies::put(&bytes[0..end], store, 0);
 }
 
+// A create captures before the transfer: the record after it.
+fn created(
+    r: Record,
+    c: Command,
+    a: [u32; 4],
+    bytes: &[u8],
+    reason: &[u8],
+    host: &mut [u8],
+) -> Record
+    requires { ⌜ (c .create ≡ true → 512 * lastOf (topOf (r .caps) (c .mcda)) a ≤ length (now bytes)) ⌝ }
+    ensures { λ x. ⌜ (x ≡ recordMade r c a (now (reason .entry))) × (now (host .exit) ≡ storeMade r c a (now (bytes .entry)) (now (host .entry))) ⌝ }
+{
+    if c.create {
+        let caps = r.caps;
+        let mcda = c.mcda as u32;
+        keep(bytes, pages::last_of(pages::top(caps, mcda), a), host);
+        return host_taken(r, pages::trim(caps, mcda, a), reason_of(reason));
+    }
+    r
+}
+
+// On 08h RAE 0 clears after the transfer.
+fn acknowledged(r: Record, c: Command) -> Record
+    ensures { λ x. ⌜ x ≡ pick (eqb (c .page) controllerPage && not (c .rae)) (clearedOf r) r ⌝ }
+{
+    pick_record((c.page == pages::CONTROLLER) & !c.rae, cleared(r), r)
+}
+
+// The store of the page asked for: 07h's, and 08h's for any other number.
+fn store_of<'a>(page: u8, host: &'a [u8], controller: &'a [u8]) -> &'a [u8]
+    ensures { λ x. ⌜ now x ≡ pick (eqb page hostPage) (now (host .entry)) (now (controller .entry)) ⌝ }
+{
+    if page == pages::HOST {
+        host
+    } else {
+        controller
+    }
+}
+
 // The page's bytes that the command asks for go to the front of the buffer.
-fn send(page: u8, r: Record, store: &[u8], c: Command, buf: &mut [u8])
-    ensures { λ _. ⌜ now (buf .exit) ≡ servedInto (headerOf (fieldsFor page r)) (now (store .entry)) (blocksOf (r .caps) (fieldsFor page r .last)) (c .offset) (c .bytes) (now (buf .entry)) ⌝ }
+fn send<'a>(r: Record, host: &'a [u8], controller: &'a [u8], c: Command, buf: &mut [u8])
+    ensures { λ _. ⌜ now (buf .exit) ≡ servedInto (headerOf (fieldsFor (c .page) r)) (pick (eqb (c .page) hostPage) (now (host .entry)) (now (controller .entry))) (blocksOf (r .caps) (fieldsFor (c .page) r .last)) (c .offset) (c .bytes) (now (buf .entry)) ⌝ }
 {
     let caps = r.caps;
-    let f = records::fields(page, r);
+    let f = records::fields(c.page, r);
     let last = f.last;
+    let store = store_of(c.page, host, controller);
     serving::serve(
         header::write(f),
         store,
@@ -186,19 +228,9 @@ pub fn command(
     if answer != answers::SUCCESS {
         return refused(answer, c.page, r);
     }
-    if c.create {
-        let mcda = c.mcda as u32;
-        keep(bytes, pages::last_of(pages::top(caps, mcda), a), host);
-        let next = host_taken(r, pages::trim(caps, mcda, a), reason_of(reason));
-        send(pages::HOST, next, &host[..], c, buf);
-        return plain(answer, next);
-    }
-    if c.page == pages::HOST {
-        send(pages::HOST, r, &host[..], c, buf);
-        return plain(answer, r);
-    }
-    send(pages::CONTROLLER, r, controller, c, buf);
-    plain(answer, pick_record(c.rae, r, cleared(r)))
+    let next = created(r, c, a, bytes, reason, host);
+    send(next, &host[..], controller, c, buf);
+    plain(answer, acknowledged(next, c))
 }
 
 // A capture of the controller's own on 08h, over an unread one too. A refusal leaves stores and record as lent.
