@@ -13,7 +13,6 @@
 #include "stop.h"
 
 #include <stdio.h>
-#include <stdlib.h>
 #include <time.h>
 
 static struct collect_options options;
@@ -84,10 +83,5 @@ int collect_command(char **words) {
         setvbuf(stdout, NULL, _IOLBF, 0); /* a command is seen when it is sent */
     if (!options.devices.count)
         return collect_from(NULL);
-    int *statuses = calloc(options.devices.count, sizeof *statuses);
-    if (!statuses)
-        die("no memory for %zu devices", options.devices.count);
-    int status = each_in_turn(options.devices.names, options.devices.count, collect_from, statuses);
-    free(statuses);
-    return status;
+    return each_in_turn(options.devices.names, options.devices.count, collect_from, NULL);
 }

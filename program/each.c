@@ -43,9 +43,11 @@ static int in_own_process(const char *name, int (*work)(const char *name)) {
 int each_in_turn(const char **names, size_t count, int (*work)(const char *name), int *statuses) {
     int first = STATUS_SUCCESS;
     for (size_t i = 0; i < count && !stop_asked(); i++) {
-        statuses[i] = count == 1 ? work(names[i]) : in_own_process(names[i], work);
+        int status = count == 1 ? work(names[i]) : in_own_process(names[i], work);
+        if (statuses)
+            statuses[i] = status;
         if (!first)
-            first = statuses[i];
+            first = status;
     }
     return first;
 }

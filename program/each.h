@@ -5,8 +5,8 @@
 #include <stddef.h>
 
 /* Does the work for each name in turn. Of several, each has a process of its own, so that whatever ends one leaves the others alone. Its
- * exit status, or STATUS_TROUBLE if a signal ended it, goes to `statuses`. Answers the first that is not 0. A stop that is asked for is
- * handed on, and the names after it are left out. */
+ * exit status, or STATUS_TROUBLE if a signal ended it, goes to `statuses`, unless that is NULL. Answers the first that is not 0. A stop that is
+ * asked for is handed on, and the names after it are left out. */
 int each_in_turn(const char **names, size_t count, int (*work)(const char *name), int *statuses);
 
 #endif

@@ -11,7 +11,6 @@
 #include "say.h"
 
 #include <stdio.h>
-#include <stdlib.h>
 
 static const char help[] = "usage: bumbazeel status [OPTIONS] DEVICE...\n"
                            "\n"
@@ -123,10 +122,5 @@ static int tell_status(const char *path) {
 
 int status_command(char **words) {
     read_options(words);
-    int *statuses = calloc(options.devices.count, sizeof *statuses);
-    if (!statuses)
-        die("no memory for %zu devices", options.devices.count);
-    int status = each_in_turn(options.devices.names, options.devices.count, tell_status, statuses);
-    free(statuses);
-    return status;
+    return each_in_turn(options.devices.names, options.devices.count, tell_status, NULL);
 }
