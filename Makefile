@@ -23,7 +23,7 @@ MANDIR ?= $(PREFIX)/share/man
 DOCDIR ?= $(PREFIX)/share/doc/bumbazeel
 COMPLETIONDIR ?= $(PREFIX)/share/bash-completion/completions
 
-.PHONY: all install uninstall faults test sanitize valgrind fuzz demo bench clean
+.PHONY: all linkable install uninstall faults test sanitize valgrind fuzz demo bench clean
 .DEFAULT_GOAL := all
 .DELETE_ON_ERROR:
 
@@ -32,7 +32,14 @@ all: build/libbumbazeel.a build/libbumbazeel.so build/bumbazeel
 # The library is made only of what is proved, so its proofs are among what it is made from.
 PROVED := crates.txt $(wildcard crates/*/src/*.rt crates/*/specs/*.antt crates/*/proofs/*.antt crates/*/proofs/*/*.antt)
 
-build/libbumbazeel.a: $(PROVED)
+# The kit compiles for x86-64, whatever machine proves.
+COMPILED_FOR ?= x86_64
+
+linkable:
+	@case "$$($(CC) -dumpmachine)" in $(COMPILED_FOR)*) ;; *) \
+		echo "the library is compiled for $(COMPILED_FOR), and $(CC) makes programs for $$($(CC) -dumpmachine): set CC and AR to a cross compiler's" >&2; exit 1;; esac
+
+build/libbumbazeel.a: $(PROVED) | linkable
 	@mkdir -p build
 	rt staticlib host_boundary
 	rt staticlib controller_boundary
