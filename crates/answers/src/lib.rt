@@ -1,9 +1,12 @@
-// The answers of both sides, 0 to 15, under document 01's names, and the NVMe status that an answer to a command stands for.
+// The answers of both sides, 0 to 15, under document 01's names, with the NVMe status that an answer to a command stands for and the
+// identifier's class that an answer 2 (Invalid Log Page) comes with.
 //
-// It rests on choices, for the words of its definitions. It promises that each answer's status is the one of specs/Answers.antt, and
-// that a refusal of the call itself has none.
+// It rests on choices, for the words of its definitions. It promises that each answer's status is the one of specs/Answers.antt, that a
+// refusal of the call itself has none, that the table has at every identifier the class that document 01's ranges say, and that the
+// classes' counts are the document's (specs/Classes.antt).
 ghost use mathlib.Core.Path.{_≡_};
 ghost use Rattle.answers.specs.Answers.{nvmeStatus, noStatus, statusOf};
+ghost use Rattle.answers.specs.Classes.{classOf};
 
 // Success.
 pub const SUCCESS: u8 = 0;
@@ -80,4 +83,30 @@ pub fn status_of(answer: u8) -> Status
         INVALID_LOG_PAGE => nvme(COMMAND_SPECIFIC, 0x09),
         _ => no_status(),
     }
+}
+
+// The class of each identifier as a digit: a row for each high half of the identifier, 0h to Fh, and in it the low half, 0h to Fh.
+const CLASSES: [u8; 256] = *b"\
+    0000000000000010\
+    0000000001000000\
+    0000303333333333\
+    3333333333333333\
+    3333333333333333\
+    3333333333333333\
+    3333333333333333\
+    0000333333333330\
+    0011111111111111\
+    1111111111111111\
+    1111111111111111\
+    1111111111111111\
+    2222222222222222\
+    2222222222222222\
+    2222222222222222\
+    2222222222222222";
+
+// The identifier's class, 0 named, 1 elsewhere, 2 the vendor's, 3 reserved: every u8 has an entry.
+pub fn class(identifier: u8) -> u8
+    ensures { λ r. ⌜ r ≡ classOf identifier ⌝ }
+{
+    CLASSES[identifier as usize] - b'0'
 }

@@ -7,7 +7,7 @@ use lib.ListN.{length, getD}
 use lib.Dec.{eqb}
 use Rattle.choices.specs.Choice.{pick}
 use Rattle.copies.specs.Parts.{zeros, putAt}
-use Rattle.pages.specs.Pages.{hostPage, controllerPage, block}
+use Rattle.pages.specs.Pages.{controllerPage, block, perPage}
 use Rattle.header.specs.declared.Fault.the-variants.{Length}
 use Rattle.header.specs.Header.{checkOf}
 use Rattle.plans.specs.declared.Plan.{Plan}
@@ -21,7 +21,7 @@ use Rattle.completions.specs.declared.Touch.the-variants.{Keep, Place, T
 
 -- the page's own generation byte: 381 on 07h, 383 on 08h
 unfoldable pub generationOf : ℕ → List ℕ → ℕ
-generationOf page d = pick (eqb (length d) block) (pick (eqb page hostPage) (getD d 381 0) (getD d 383 0)) 0
+generationOf page d = pick (eqb (length d) block) (perPage page (getD d 381 0) (getD d 383 0)) 0
 
 -- of a header or of the acknowledgement's data
 unfoldable pub seenOf : Plan → List ℕ → Seen

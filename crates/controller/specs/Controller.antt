@@ -8,14 +8,14 @@ use lib.Dec.{eqb}
 use Rattle.choices.specs.Choice.{pick}
 use Rattle.copies.specs.Parts.{zeros, putAt}
 use Rattle.answers.specs.Answers.{success, invalidLogPage}
-use Rattle.classes.specs.Classes.{classOf}
-use Rattle.pages.specs.Pages.{hostPage, controllerPage, block, lastOf, blocksOf, topOf, trimOf}
+use Rattle.answers.specs.Classes.{classOf}
+use Rattle.pages.specs.Pages.{controllerPage, block, lastOf, topOf, trimOf, perPage}
 use Rattle.words.specs.declared.Command.{Command}
 use Rattle.words.specs.declared.Words.{Words}
 use Rattle.words.specs.Words.{readOf}
 use Rattle.header.specs.Header.{headerOf}
 use Rattle.records.specs.declared.Record.{Record}
-use Rattle.records.specs.Records.{fieldsFor}
+use Rattle.records.specs.Records.{fieldsFor, blocksFor}
 use Rattle.serving.specs.Serving.{pageBytes, windowOf}
 use Rattle.verdicts.specs.declared.Lent.{Lent}
 use Rattle.verdicts.specs.Verdicts.{commandAnswer, captureAnswer}
@@ -43,12 +43,12 @@ candidateOf last bytes reason = record { last = last; bytes = bytes; reason = re
 -- ---- the page
 
 abbrev pub storeFor : ℕ → World → List ℕ
-storeFor page w = pick (eqb page hostPage) (w .host) (w .controller)
+storeFor page w = perPage page (w .host) (w .controller)
 
 -- the header, then the store's blocks
 unfoldable pub pageOf : ℕ → World → List ℕ
 pageOf page w =
-    pageBytes (headerOf (fieldsFor page (w .own))) (storeFor page w) (blocksOf (w .own .caps) (fieldsFor page (w .own) .last))
+    pageBytes (headerOf (fieldsFor page (w .own))) (storeFor page w) (blocksFor page (w .own))
 
 -- ---- captures and the acknowledgement
 

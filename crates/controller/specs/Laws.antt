@@ -1,7 +1,7 @@
 -- What any command and any capture keep: a refusal changes nothing, an agreeing world stays one, and nothing changes but by a create or
 -- an acknowledgement.
 -- Assumes nothing.
-use Prim.Native.Nat.{ℕ, _*_, _<_}
+use Prim.Native.Nat.{ℕ, _*_}
 use mathlib.Core.Path.{_≡_, refl, sym, ap, subst, _∙_}
 use mathlib.Core.List.{List, []}
 use mathlib.Core.Bool.{Bool, true, false, not, _&&_}
@@ -19,7 +19,7 @@ use Rattle.words.specs.declared.Command.{Command}
 use Rattle.words.specs.declared.Words.{Words}
 use Rattle.words.specs.Words.{readOf}
 use Rattle.records.specs.Records.{agreesWith}
-use Rattle.records.specs.Back.{StoreFits, Sized, agreed, agrees-where}
+use Rattle.records.specs.Back.{StoreFits, Typed, agreed, agrees-where, agreed-typed}
 use Rattle.verdicts.specs.Verdicts.{commandAnswer, captureAnswer}
 use Rattle.verdicts.specs.Accepted.{Whole, Accepted, accepted, Captures, captures}
 use Rattle.controller.specs.Steps.{create-host, host-stays, captured, no-capture}
@@ -183,64 +183,63 @@ captured-agrees w candidate g =
 
 -- ---- and so does what the types say of a record
 
-pub record Typed (w : World) : Type 0 where
-  pub sized : Sized (w .own)
-  pub host-byte : w .own .host .generation < 256
-  pub controller-byte : w .own .controller .generation < 256
-
 trim-four : (w : World) (mcda : ℕ) (a : List ℕ) → length (trimOf (w .own .caps) mcda a) ≡ 4
 unfolding trimOf trimmedTo
 trim-four w mcda a = refl
 
-pub create-typed : (w : World) (candidate : Candidate) (mcda : ℕ) → Typed w → length (candidate .reason) ≡ 128 → Typed (hostCaptured w candidate mcda)
+pub create-typed : (w : World) (candidate : Candidate) (mcda : ℕ) → Agrees w → Typed (w .own)
+    → Whole (lastOf (topOf (w .own .caps) mcda) (candidate .last)) (candidate .last) (length (candidate .bytes)) (length (candidate .reason)) (length (w .host))
+    → Typed (hostCaptured w candidate mcda .own)
 unfolding hostCaptured
-create-typed w candidate mcda t l = record {
-  sized = record {
-    host-four = trim-four w mcda (candidate .last);
-    host-reason = l;
-    controller-four = t .sized .controller-four;
-    controller-reason = t .sized .controller-reason;
-  };
-  host-byte = omega arith;
-  controller-byte = t .controller-byte;
-}
+create-typed w candidate mcda g t h =
+    agreed-typed _ _ _ (create-agrees w candidate mcda g h)
+    (record {
+      host-four = trim-four w mcda (candidate .last);
+      host-reason = h .long;
+      controller-four = t .sized .controller-four;
+      controller-reason = t .sized .controller-reason;
+    })
+    (omega arith)
+    (t .ranged .controller-generation)
 
-pub clear-typed : (w : World) → Typed w → Typed (world (clearedOf (w .own)) (w .host) (w .controller))
-clear-typed w t = record {
-  sized = record {
-    host-four = t .sized .host-four;
-    host-reason = t .sized .host-reason;
-    controller-four = refl;
-    controller-reason = t .sized .controller-reason;
-  };
-  host-byte = t .host-byte;
-  controller-byte = t .controller-byte;
-}
+pub clear-typed : (w : World) → Agrees w → Typed (w .own) → Typed (clearedOf (w .own))
+clear-typed w g t =
+    agreed-typed _ _ _ (clear-agrees w g)
+    (record {
+      host-four = t .sized .host-four;
+      host-reason = t .sized .host-reason;
+      controller-four = refl;
+      controller-reason = t .sized .controller-reason;
+    })
+    (t .ranged .host-generation)
+    (t .ranged .controller-generation)
 
-pub capture-typed : (w : World) (candidate : Candidate) → Typed w → length (candidate .reason) ≡ 128 → Typed (controllerCaptured w candidate)
+pub capture-typed : (w : World) (candidate : Candidate) → Agrees w → Typed (w .own) → Captures (w .own) (candidate .last) (lentBy w candidate [])
+    → Typed (controllerCaptured w candidate .own)
 unfolding controllerCaptured
-capture-typed w candidate t l = record {
-  sized = record {
-    host-four = t .sized .host-four;
-    host-reason = t .sized .host-reason;
-    controller-four = trim-four w 0 (candidate .last);
-    controller-reason = l;
-  };
-  host-byte = t .host-byte;
-  controller-byte = omega arith;
-}
+capture-typed w candidate g t h =
+    agreed-typed _ _ _ (capture-agrees w candidate g h)
+    (record {
+      host-four = t .sized .host-four;
+      host-reason = t .sized .host-reason;
+      controller-four = trim-four w 0 (candidate .last);
+      controller-reason = h .candidate .long;
+    })
+    (t .ranged .host-generation)
+    (omega arith)
 
-pub command-typed : (w : World) (candidate : Candidate) (words : Words) (buf : List ℕ) → Typed w → Typed (commandOf w candidate words buf .world)
-command-typed w candidate words buf t =
-    command-frame Typed w candidate words buf t
-    (λ a c. create-typed w candidate (asked w words .mcda) t (a .candidate c .long))
-    (λ a p r. clear-typed w t)
+pub command-typed : (w : World) (candidate : Candidate) (words : Words) (buf : List ℕ) → Agrees w → Typed (w .own)
+    → Typed (commandOf w candidate words buf .world .own)
+command-typed w candidate words buf g t =
+    command-frame (λ (v : World). Typed (v .own)) w candidate words buf t
+    (λ a c. create-typed w candidate (asked w words .mcda) g t (a .candidate c))
+    (λ a p r. clear-typed w g t)
 
-pub captured-typed : (w : World) (candidate : Candidate) → Typed w → Typed (captureOf w candidate .world)
+pub captured-typed : (w : World) (candidate : Candidate) → Agrees w → Typed (w .own) → Typed (captureOf w candidate .world .own)
 unfolding captureOf captureAnswered
-captured-typed w candidate t =
+captured-typed w candidate g t =
     by-test (eqb (captureAnswer (w .own) (candidate .last) (lentBy w candidate [])) success)
-    (λ e. rw e (capture-typed w candidate t (captures (w .own) (candidate .last) (lentBy w candidate []) (eqb-true _ _ e) .candidate .long)))
+    (λ e. rw e (capture-typed w candidate g t (captures (w .own) (candidate .last) (lentBy w candidate []) (eqb-true _ _ e))))
     (λ e. rw e t)
 
 -- a refused capture changes nothing

@@ -1,4 +1,3 @@
 pub mod Controller
 pub mod Steps
 pub mod Laws
-pub mod Own

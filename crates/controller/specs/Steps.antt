@@ -8,25 +8,25 @@ use native.Mathlib.Omega.{arith}
 use lib.ListN.{length, take}
 use lib.Dec.{eqb}
 use borrow.Author.Tests.{eqb-true, ne-eqb}
-use Rattle.choices.specs.Choice.{pick, pick-cases}
-use Rattle.choices.specs.Tests.{by-test, and-left, or-cases}
+use Rattle.choices.specs.Choice.{pick}
+use Rattle.choices.specs.Tests.{by-test, and-left}
 use Rattle.copies.specs.Parts.{zeros, putAt, put-length, put-whole}
 use Rattle.answers.specs.Answers.{success}
-use Rattle.pages.specs.declared.Caps.{Caps}
-use Rattle.pages.specs.Pages.{hostPage, controllerPage, telemetryPage, block, area4, lastOf, greatestOf, blocksOf, topOf, trimOf}
-use Rattle.pages.specs.Trimmed.{greatest-within, trim-blocks}
+use Rattle.pages.specs.Pages.{hostPage, controllerPage, telemetryPage, block, lastOf, topOf, trimOf, perPage}
+use Rattle.pages.specs.Trimmed.{trim-blocks}
+use Rattle.pages.specs.Laws.{by-page, blocks-greatest}
 use Rattle.words.specs.declared.Command.{Command}
 use Rattle.words.specs.declared.Words.{Words}
 use Rattle.words.specs.Words.{readOf}
 use Rattle.header.specs.Header.{headerOf}
 use Rattle.records.specs.declared.Record.{Record}
-use Rattle.records.specs.Records.{agreesWith, hostFields, controllerFields, fieldsFor}
+use Rattle.records.specs.Records.{agreesWith, hostFields, controllerFields, fieldsFor, blocksFor}
 use Rattle.records.specs.Back.{agreed}
 use Rattle.serving.specs.Serving.{servedInto, served-fits}
 use Rattle.verdicts.specs.Verdicts.{commandAnswer, captureAnswer}
 use Rattle.verdicts.specs.Accepted.{Whole, Accepted, accepted, captures, kept-lent}
 use Rattle.controller.specs.declared.Answered.{Answered}
-use Rattle.controller.specs.Controller.{World, world, Candidate, storeFor, pageOf, hostTaken, controllerTaken, clearedOf, recordMade, storeMade, hostCaptured, controllerCaptured, outcome, Outcome, classFor, lentBy, before, sentOf, afterwards, answered, commandOf, captureAnswered, captureOf}
+use Rattle.controller.specs.Controller.{World, world, Candidate, storeFor, pageOf, controllerTaken, clearedOf, recordMade, storeMade, hostCaptured, controllerCaptured, outcome, Outcome, classFor, lentBy, before, sentOf, afterwards, answered, commandOf, captureAnswered, captureOf}
 
 -- ---- what the words say of create
 
@@ -35,23 +35,16 @@ create-host extended words c e h =
     let p : readOf extended words .create ≡ true = sym (ap (λ (d : Command). d .create) e) ∙ h in
     ap (λ (d : Command). d .page) e ∙ eqb-true _ hostPage (and-left _ _ p)
 
--- a page's blocks are no more than its greatest last block
-pub blocks-greatest : (caps : Caps) (a : List ℕ) → blocksOf caps a ≤ greatestOf a
-unfolding blocksOf
-blocks-greatest caps a =
-    let g = greatest-within a in
-    pick-cases (λ (x : ℕ). x ≤ greatestOf a) (area4 caps) (λ e. g .four) (λ e. g .three)
-
 -- ---- the transfer
 
 pub sent-is : (w : World) (c : Command) (page : ℕ) (buf b : List ℕ) → c .page ≡ page
-    → block * blocksOf (w .own .caps) (fieldsFor page (w .own) .last) ≤ length (storeFor page w)
+    → block * blocksFor page (w .own) ≤ length (storeFor page w)
     → c .bytes ≤ length buf
-    → b ≡ servedInto (headerOf (fieldsFor page (w .own))) (storeFor page w) (blocksOf (w .own .caps) (fieldsFor page (w .own) .last)) (c .offset) (c .bytes) buf
+    → b ≡ servedInto (headerOf (fieldsFor page (w .own))) (storeFor page w) (blocksFor page (w .own)) (c .offset) (c .bytes) buf
     → b ≡ sentOf w c buf
 unfolding sentOf pageOf
 sent-is w c page buf b p f r e =
-    e ∙ served-fits (headerOf (fieldsFor page (w .own))) (storeFor page w) (blocksOf (w .own .caps) (fieldsFor page (w .own) .last)) (c .offset) (c .bytes) buf f r
+    e ∙ served-fits (headerOf (fieldsFor page (w .own))) (storeFor page w) (blocksFor page (w .own)) (c .offset) (c .bytes) buf f r
     ∙ rw p
 
 -- ---- the paths of a command
@@ -96,7 +89,7 @@ no-capture w candidate c p = rw p
 
 -- a page whose blocks lie in its store
 abbrev pub Fits : ℕ → World → Type 0
-Fits page w = block * blocksOf (w .own .caps) (fieldsFor page (w .own) .last) ≤ length (storeFor page w)
+Fits page w = block * blocksFor page (w .own) ≤ length (storeFor page w)
 
 -- the host page's after a capture
 pub captured-fits : (w : World) (candidate : Candidate) (mcda : ℕ)
@@ -118,9 +111,7 @@ agreed-fits w g page p =
     let controller = blocks-greatest (w .own .caps) (w .own .controller .last) in
     let a = k .host .room in
     let b = k .controller .fits .room in
-    or-cases (eqb page hostPage) (eqb page controllerPage) p
-    (λ q. rw (eqb-true page hostPage q) (omega arith))
-    (λ q. rw (eqb-true page controllerPage q) (omega arith))
+    by-page (λ (n : ℕ). Fits n w) page p (omega arith) (omega arith)
 
 reason-whole : (reason rs : List ℕ) → length reason ≡ 128 → rs ≡ putAt (zeros 128) 0 reason → rs ≡ reason
 reason-whole reason rs l e = e ∙ put-whole (zeros 128) reason (sym l)
@@ -147,7 +138,7 @@ made-fits w candidate c buf g host =
 pub served-is : (w : World) (candidate : Candidate) (c : Command) (buf : List ℕ) (x : ℕ) (y : Answered) {next after : Record} {h b : List ℕ}
     → x ≡ success → Accepted (w .own) c (candidate .last) (lentBy w candidate buf) → (c .create ≡ true → c .page ≡ hostPage)
     → (next ≡ recordMade (w .own) c (candidate .last) (candidate .reason)) × (h ≡ storeMade (w .own) c (candidate .last) (candidate .bytes) (w .host))
-    → b ≡ servedInto (headerOf (fieldsFor (c .page) next)) (pick (eqb (c .page) hostPage) h (w .controller)) (blocksOf (next .caps) (fieldsFor (c .page) next .last)) (c .offset) (c .bytes) buf
+    → b ≡ servedInto (headerOf (fieldsFor (c .page) next)) (perPage (c .page) h (w .controller)) (blocksFor (c .page) next) (c .offset) (c .bytes) buf
     → after ≡ pick (eqb (c .page) controllerPage && not (c .rae)) (clearedOf next) next
     → y ≡ record { answer = x; class = 0; own = after }
     → outcome (y .answer) (y .class) (world (y .own) h (w .controller)) b ≡ answered w candidate c buf x

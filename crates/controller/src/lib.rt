@@ -17,9 +17,9 @@ ghost use lib.ListN.{length, take};
 ghost use Rattle.choices.specs.Choice.{pick};
 ghost use Rattle.copies.specs.Parts.{putAt, zeros};
 ghost use lib.Dec.{eqb};
-ghost use Rattle.pages.specs.Pages.{hostPage, controllerPage, lastOf, blocksOf, topOf};
+ghost use Rattle.pages.specs.Pages.{controllerPage, lastOf, topOf, perPage};
 ghost use Rattle.header.specs.Header.{headerOf};
-ghost use Rattle.records.specs.Records.{fieldsFor};
+ghost use Rattle.records.specs.Records.{fieldsFor, blocksFor};
 ghost use Rattle.serving.specs.Serving.{servedInto};
 ghost use Rattle.controller.specs.Controller.{hostTaken, controllerTaken, clearedOf, recordMade, storeMade, classFor, world, candidateOf, outcome, commandOf, captureOf};
 
@@ -152,7 +152,7 @@ fn acknowledged(r: Record, c: Command) -> Record
 
 // The store of the page asked for: 07h's, and 08h's for any other number.
 fn store_of<'a>(page: u8, host: &'a [u8], controller: &'a [u8]) -> &'a [u8]
-    ensures { λ x. ⌜ now x ≡ pick (eqb page hostPage) (now (host .entry)) (now (controller .entry)) ⌝ }
+    ensures { λ x. ⌜ now x ≡ perPage page (now (host .entry)) (now (controller .entry)) ⌝ }
 {
     if page == pages::HOST {
         host
@@ -163,7 +163,7 @@ fn store_of<'a>(page: u8, host: &'a [u8], controller: &'a [u8]) -> &'a [u8]
 
 // The page's bytes that the command asks for go to the front of the buffer.
 fn send<'a>(r: Record, host: &'a [u8], controller: &'a [u8], c: Command, buf: &mut [u8])
-    ensures { λ _. ⌜ now (buf .exit) ≡ servedInto (headerOf (fieldsFor (c .page) r)) (pick (eqb (c .page) hostPage) (now (host .entry)) (now (controller .entry))) (blocksOf (r .caps) (fieldsFor (c .page) r .last)) (c .offset) (c .bytes) (now (buf .entry)) ⌝ }
+    ensures { λ _. ⌜ now (buf .exit) ≡ servedInto (headerOf (fieldsFor (c .page) r)) (perPage (c .page) (now (host .entry)) (now (controller .entry))) (blocksFor (c .page) r) (c .offset) (c .bytes) (now (buf .entry)) ⌝ }
 {
     let caps = r.caps;
     let f = records::fields(c.page, r);
@@ -182,7 +182,7 @@ fn send<'a>(r: Record, host: &'a [u8], controller: &'a [u8], c: Command, buf: &m
 fn refused(answer: u8, page: u8, r: Record) -> Answered
     ensures { λ x. ⌜ x ≡ record { answer = answer; class = classFor answer page; own = r } ⌝ }
 {
-    let class = choices::pick_u8(answer == answers::INVALID_LOG_PAGE, classes::class(page), 0);
+    let class = choices::pick_u8(answer == answers::INVALID_LOG_PAGE, answers::class(page), 0);
     Answered {
         answer,
         class,

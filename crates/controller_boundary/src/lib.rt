@@ -1,6 +1,6 @@
 // The controller's functions of include/bumbazeel.h: thin, over what the bytes that C lends say.
 //
-// It rests on shared_layouts and record_layout for the structs, and on answers, classes, records and controller for the work. It promises
+// It rests on shared_layouts and record_layout for the structs, and on answers, records and controller for the work. It promises
 // each function's answer and every lent byte afterwards, for all arguments, as an equation with the definitions that those crates'
 // contracts cite (specs/Boundary.antt). A damaged record is refused, and what is refused changes nothing (specs/Laws.antt). A struct of
 // the header file is an array of its bytes here, and a pointer with a length is a slice. No store or buffer is moved but by the call that
@@ -11,7 +11,7 @@ use words::Words;
 ghost use mathlib.Core.Path.{_≡_};
 ghost use Rattle.choices.specs.Choice.{pick};
 ghost use Rattle.answers.specs.Answers.{success, disagree, statusOf};
-ghost use Rattle.classes.specs.Classes.{classOf};
+ghost use Rattle.answers.specs.Classes.{classOf};
 ghost use Rattle.controller.specs.Controller.{candidateOf};
 ghost use Rattle.controller_boundary.specs.Boundary.{wordsOf, numberOf, identityOf, freshOk, freshBytes, recordAfter, commandAnswer, commandAt, captureAnswer, captureAt};
 
@@ -23,7 +23,7 @@ const NO_NUMBER: u16 = 0xffff;
 pub extern "C" fn bumbazeel_class(page: u8) -> u8
     ensures { λ r. ⌜ r ≡ classOf page ⌝ }
 {
-    classes::class(page)
+    answers::class(page)
 }
 
 // The NVMe status of an answer as one number.

@@ -1,4 +1,4 @@
--- What the commands of a collection are answered: the builder's words, judged and served by an agreeing controller.
+-- What an agreeing controller answers to words that the builder made.
 -- Assumes nothing.
 use Prim.Native.Nat.{ℕ, _+_, _-_, _*_, _%_, _≤_}
 use mathlib.Core.Path.{_≡_, refl, sym, ap, _∙_}
@@ -12,23 +12,23 @@ use Rattle.choices.specs.Choice.{pick}
 use Rattle.choices.specs.Tests.{holds, by-test, each, clash}
 use Rattle.answers.specs.Answers.{success, invalidField}
 use Rattle.pages.specs.declared.Caps.{Caps}
-use Rattle.pages.specs.Pages.{hostPage, controllerPage, telemetryPage, block, blocksOf, sizeOf, lastOf, topOf}
+use Rattle.pages.specs.Pages.{hostPage, controllerPage, telemetryPage, block, lastOf, topOf}
 use Rattle.words.specs.declared.Command.{Command}
 use Rattle.words.specs.declared.Words.{Words}
 use Rattle.words.specs.Words.{taken, builtOf}
 use Rattle.words.specs.Back.{meant, built-back}
 use Rattle.header.specs.Header.{headerOf}
 use Rattle.header.specs.Back.{header-length}
-use Rattle.records.specs.Records.{hostFields, controllerFields, fieldsFor}
-use Rattle.records.specs.Back.{Sized}
+use Rattle.records.specs.Records.{hostFields, controllerFields, fieldsFor, blocksFor, sizeFor}
+use Rattle.records.specs.Back.{Sized, Typed}
 use Rattle.serving.specs.Serving.{windowOf, window-header}
 use Rattle.serving.specs.Runs.{window-area}
 use Rattle.verdicts.specs.declared.Lent.{Lent}
 use Rattle.verdicts.specs.Verdicts.{candidateOk, fieldBad, lastAfter, commandAnswer}
 use Rattle.verdicts.specs.Accepted.{Fair, accepts, beyond-refused, candidate-whole}
 use Rattle.controller.specs.Controller.{World, Candidate, storeFor, pageOf, hostCaptured, outcome, Outcome, lentBy, before, sentOf, afterwards, commandOf}
 use Rattle.controller.specs.Steps.{captured, agreed-fits}
-use Rattle.controller.specs.Laws.{Agrees, Typed, create-typed, asked, verdict, command-done, command-refused}
+use Rattle.controller.specs.Laws.{Agrees, create-typed, asked, verdict, command-done, command-refused}
 
 -- what a collection asks of a controller at setup, and what its own commands are lent
 pub record Ready (w : World) (bytes : ℕ) (buf : List ℕ) : Type 0 where
@@ -88,11 +88,11 @@ readDone w page rae offset blocks buf =
 pub own-read : (w : World) (candidate : Candidate) (page : ℕ) (rae : Bool) (offset blocks : ℕ) (buf : List ℕ)
     → Ready w (block * blocks) buf → taken page false 0 offset blocks ≡ true
     → commandOf w candidate (sends page false 0 rae offset blocks) buf
-    ≡ pick (leb (block * offset) (sizeOf (w .own .caps) (fieldsFor page (w .own) .last))) (readDone w page rae offset blocks buf)
+    ≡ pick (leb (block * offset) (sizeFor page (w .own))) (readDone w page rae offset blocks buf)
     (outcome invalidField 0 w buf)
 unfolding sentOf before
 own-read w candidate page rae offset blocks buf k t =
-    by-test (leb (block * offset) (sizeOf (w .own .caps) (fieldsFor page (w .own) .last)))
+    by-test (leb (block * offset) (sizeFor page (w .own)))
     (λ h.
     command-done w candidate words buf (answer ∙ accepts (w .own) c (candidate .last) lent fair (rw (last-read w page rae offset blocks (candidate .last)) (leb-true _ _ h)))
     ∙ ap (λ (d : Command). outcome success 0 (afterwards (before w candidate d) d) (sentOf (before w candidate d) d buf)) e
@@ -134,9 +134,10 @@ pub retained : (w : World) (page : ℕ) (create : Bool) (mcda offset blocks : �
 unfolding afterwards
 retained w page create mcda offset blocks = by-test (eqb page controllerPage) (λ e. rw e) (λ e. rw e)
 
-reason-long : (w : World) → Sized (w .own) → (page : ℕ) → length (fieldsFor page (w .own) .reason) ≡ 128
+pub header-long : (page : ℕ) (w : World) → Sized (w .own) → length (headerOf (fieldsFor page (w .own))) ≡ block
 unfolding fieldsFor hostFields controllerFields
-reason-long w z page = by-test (eqb page hostPage) (λ e. rw e (z .host-reason)) (λ e. rw e (z .controller-reason))
+header-long page w z =
+    header-length (fieldsFor page (w .own)) (by-test (eqb page hostPage) (λ e. rw e (z .host-reason)) (λ e. rw e (z .controller-reason)))
 
 pub header-taken : (page : ℕ) → telemetryPage page ≡ true → taken page false 0 0 1 ≡ true
 unfolding taken holds
@@ -147,14 +148,14 @@ unfolding pageOf
 window-of-header w page e = window-header (headerOf (fieldsFor page (w .own))) _ _ e
 
 -- A header command is always served, with the page's header.
-pub own-header : (w : World) (candidate : Candidate) (page : ℕ) (rae : Bool) (buf : List ℕ) → Ready w block buf → Typed w → telemetryPage page ≡ true
+pub own-header : (w : World) (candidate : Candidate) (page : ℕ) (rae : Bool) (buf : List ℕ) → Ready w block buf → Typed (w .own) → telemetryPage page ≡ true
     → commandOf w candidate (sends page false 0 rae 0 1) buf
     ≡ outcome success 0 (afterwards w (meant page false 0 rae 0 1)) (headerOf (fieldsFor page (w .own)) ++ drop block buf)
 own-header w candidate page rae buf k z p =
     own-read w candidate page rae 0 1 buf k (header-taken page p)
-    ∙ rw (le-leb 0 (sizeOf (w .own .caps) (fieldsFor page (w .own) .last)) (omega arith))
+    ∙ rw (le-leb 0 (sizeFor page (w .own)) (omega arith))
     (ap (λ (l : List ℕ). outcome success 0 (afterwards w (meant page false 0 rae 0 1)) (l ++ drop block buf))
-    (window-of-header w page (header-length (fieldsFor page (w .own)) (reason-long w (z .sized) page))))
+    (window-of-header w page (header-long page w (z .sized))))
 
 -- ---- the first header with create
 
@@ -163,7 +164,7 @@ unfolding taken holds
 create-taken mcda h = rw (le-leb mcda 4 h)
 
 -- With a candidate that is not broken it captures and is served with the new page's header.
-pub own-create : (w : World) (candidate : Candidate) (mcda : ℕ) (buf : List ℕ) → Ready w block buf → Typed w → mcda ≤ 4
+pub own-create : (w : World) (candidate : Candidate) (mcda : ℕ) (buf : List ℕ) → Ready w block buf → Typed (w .own) → mcda ≤ 4
     → candidateOk (lastOf (topOf (w .own .caps) mcda) (candidate .last)) (candidate .last) (length (candidate .bytes)) (length (candidate .reason)) (length (w .host)) ≡ true
     → commandOf w candidate (sends hostPage true mcda true 0 1) buf
     ≡ outcome success 0 (hostCaptured w candidate mcda) (headerOf (fieldsFor hostPage (hostCaptured w candidate mcda .own)) ++ drop block buf)
@@ -195,17 +196,15 @@ own-create w candidate mcda buf k y m f =
     }
 
     long : length (headerOf (fieldsFor hostPage (hostCaptured w candidate mcda .own))) ≡ block
-    long =
-        header-length (fieldsFor hostPage (hostCaptured w candidate mcda .own))
-        (reason-long (hostCaptured w candidate mcda) (create-typed w candidate mcda y (candidate-whole _ _ _ _ _ f .long) .sized) hostPage)
+    long = header-long hostPage (hostCaptured w candidate mcda) (create-typed w candidate mcda (k .agrees) y (candidate-whole _ _ _ _ _ f) .sized)
 
 -- ---- the blocks of an area
 
 -- Blocks that lie within the page are the store's.
-pub own-blocks : (w : World) (page at n : ℕ) → Typed w → Agrees w → telemetryPage page ≡ true → 1 ≤ at
-    → at + n ≤ blocksOf (w .own .caps) (fieldsFor page (w .own) .last) + 1
+pub own-blocks : (w : World) (page at n : ℕ) → Typed (w .own) → Agrees w → telemetryPage page ≡ true → 1 ≤ at
+    → at + n ≤ blocksFor page (w .own) + 1
     → windowOf (block * at) (block * n) (pageOf page w) ≡ take (block * n) (drop (block * (at - 1)) (storeFor page w))
 unfolding pageOf
 own-blocks w page at n t g p one end =
-    window-area (headerOf (fieldsFor page (w .own))) (storeFor page w) (blocksOf (w .own .caps) (fieldsFor page (w .own) .last)) at n
-    (header-length (fieldsFor page (w .own)) (reason-long w (t .sized) page)) (agreed-fits w g page p) one end
+    window-area (headerOf (fieldsFor page (w .own))) (storeFor page w) (blocksFor page (w .own)) at n
+    (header-long page w (t .sized)) (agreed-fits w g page p) one end

@@ -12,6 +12,7 @@ use Rattle.copies.specs.Parts.{zeros}
 use Rattle.answers.specs.Answers.{success, noRoom, withdrawn, nothing}
 use Rattle.pages.specs.Pages.{controllerPage, block, most4}
 use Rattle.records.specs.Records.{controllerFields, fieldsFor}
+use Rattle.records.specs.Back.{Typed}
 use Rattle.plans.specs.declared.Plan.{Plan}
 use Rattle.plans.specs.declared.Phase.the-variants.{First}
 use Rattle.plans.specs.Plans.{setupAnswer, areaLast, wordsBy}
@@ -21,7 +22,7 @@ use Rattle.collection.specs.declared.Finish.{Finish}
 use Rattle.collection.specs.declared.Next.the-variants.{End as Ends, Refuse}
 use Rattle.verdicts.specs.Accepted.{unless-disagree}
 use Rattle.controller.specs.Controller.{World, lentBy}
-use Rattle.controller.specs.Laws.{Typed, asked, command-answer}
+use Rattle.controller.specs.Laws.{asked, command-answer}
 use Rattle.sources.specs.Source.{Turn, Stand, forLent, collected}
 use Rattle.sources.specs.Promise.{Told, succeeded, lacked, withdrew, empty, mostCommands, Finished}
 use Rattle.sources.specs.Demand.{demand, first-fair}
@@ -44,7 +45,7 @@ module _ (p : Plan) (copy : List ℕ) (w : World) (first : Loan) (ts : List (Tur
     pub caps : w .own .caps ≡ p .caps
     pub room : length copy ≡ p .room
     -- what the types say of the record
-    pub typed : Typed w
+    pub typed : Typed (w .own)
     -- at most k captures of the page after the first command, k at most 255, and more than k attempts
     pub few : k ≤ 255
     pub attempts : k < p .attempts

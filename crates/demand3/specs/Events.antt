@@ -10,10 +10,11 @@ use lib.ListN.{take}
 use lib.Dec.{eqb}
 use borrow.Author.Tests.{eqb-true, ne-eqb}
 use Rattle.choices.specs.Choice.{pick-cases}
-use Rattle.choices.specs.Tests.{by-test, clash, and-left, or-cases}
+use Rattle.choices.specs.Tests.{by-test, clash, and-left}
 use Rattle.answers.specs.Answers.{success}
 use Rattle.pages.specs.declared.Caps.{Caps}
 use Rattle.pages.specs.Pages.{hostPage, controllerPage, telemetryPage}
+use Rattle.pages.specs.Laws.{by-page}
 use Rattle.words.specs.declared.Command.{Command}
 use Rattle.words.specs.declared.Words.{Words}
 use Rattle.records.specs.Records.{hostFields, controllerFields, fieldsFor}
@@ -110,12 +111,12 @@ pub act-good : (p : Plan) (e : Event) (w : World) → Good p w → Good p (actOf
 unfolding actOf
 act-good p (Sent words candidate buf) w g = record {
   agrees = command-agrees w candidate words buf (g .agrees);
-  typed = command-typed w candidate words buf (g .typed);
+  typed = command-typed w candidate words buf (g .agrees) (g .typed);
   caps = act-caps (p .caps) (Sent words candidate buf) w (g .caps);
 }
 act-good p (Taken candidate) w g = record {
   agrees = captured-agrees w candidate (g .agrees);
-  typed = captured-typed w candidate (g .typed);
+  typed = captured-typed w candidate (g .agrees) (g .typed);
   caps = act-caps (p .caps) (Taken candidate) w (g .caps);
 }
 
@@ -126,10 +127,7 @@ Moved page w v n = generationFor page v ≡ (generationFor page w + n) % 256
 pub act-moves : (page : ℕ) → telemetryPage page ≡ true → (e : Event) (w : World) → generationFor page w < 256
     → generationFor page (actOf e w) ≡ (generationFor page w + capturesOf page e w) % 256
 unfolding hostCaptured controllerCaptured
-act-moves page t e w low =
-    or-cases (eqb page hostPage) (eqb page controllerPage) t
-    (λ q. rw (eqb-true page hostPage q) (host e (rw (eqb-true page hostPage q) at low)))
-    (λ q. rw (eqb-true page controllerPage q) (controller e (rw (eqb-true page controllerPage q) at low)))
+act-moves page t e w = by-page (λ (n : ℕ). generationFor n w < 256 → Moved n w (actOf e w) (capturesOf n e w)) page t (host e) (controller e)
   where
     host : (e : Event) → generationFor hostPage w < 256 → Moved hostPage w (actOf e w) (capturesOf hostPage e w)
     host (Sent words candidate buf) l = sent-cases (Moved hostPage w) hostPage w words candidate buf (omega arith) (λ m. refl) (omega arith)
@@ -149,10 +147,7 @@ Still page w v n = n ≡ 0 → lives page v ≡ false
 
 act-still : (page : ℕ) → telemetryPage page ≡ true → (e : Event) (w : World) → Still page w (actOf e w) (capturesOf page e w)
 unfolding hostCaptured controllerCaptured fieldsFor hostFields controllerFields
-act-still page t e w =
-    or-cases (eqb page hostPage) (eqb page controllerPage) t
-    (λ q. rw (eqb-true page hostPage q) (host e))
-    (λ q. rw (eqb-true page controllerPage q) (controller e))
+act-still page t e w = by-page (λ (n : ℕ). Still n w (actOf e w) (capturesOf n e w)) page t (host e) (controller e)
   where
     host : (e : Event) → Still hostPage w (actOf e w) (capturesOf hostPage e w)
     host (Sent words candidate buf) =

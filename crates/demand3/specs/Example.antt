@@ -12,6 +12,7 @@ use Rattle.pages.specs.Pages.{lastOk, greatestOf, blocksOf, sizeOf, topOf, trim
 use Rattle.words.specs.Words.{taken, builtOf}
 use Rattle.header.specs.Header.{headerOf, faultOf, checkOf}
 use Rattle.records.specs.Records.{identityOk, storeOk, controllerOk, agreesWith, hostFields, controllerFields, fieldsFor, freshOf}
+use Rattle.records.specs.Back.{fresh-typed}
 use Rattle.serving.specs.Serving.{windowOf, pageBytes}
 use Rattle.verdicts.specs.Verdicts.{candidateOk, fieldBad, lastAfter, commandAnswer}
 use Rattle.plans.specs.declared.Plan.{Plan}
@@ -62,11 +63,7 @@ asked = record {
   taken = refl;
   caps = refl;
   room = refl;
-  typed = record {
-    sized = record { host-four = refl; host-reason = refl; controller-four = refl; controller-reason = refl };
-    host-byte = omega arith;
-    controller-byte = omega arith;
-  };
+  typed = fresh-typed _ _ refl;
   few = omega arith;
   attempts = omega arith;
   captures = omega arith;

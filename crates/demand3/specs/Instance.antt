@@ -20,7 +20,7 @@ use Rattle.plans.specs.Limits.{plan-taken, plan-limits}
 use Rattle.plans.specs.Phases.{closingBy}
 use Rattle.plans.specs.Plans.{planTests, setupAnswer, mcdaOf, wordsBy}
 use Rattle.controller.specs.Controller.{World}
-use Rattle.controller.specs.Own.{sends, retained}
+use Rattle.demand3.specs.Answered.{sends, retained}
 use Rattle.sources.specs.Source.{forLent}
 use Rattle.sources.specs.Keeps.{Keeps, Header}
 use Rattle.demand3.specs.Bench.{Event, Loan, actOf, capturesOf, ownOf, controllerSource}
@@ -38,7 +38,7 @@ module _ (p : Plan) (e : setupAnswer p ≡ success) where
 
   pub byte : (w : World) → Good p w → showsFor (p .page) w .generation < 256
   unfolding showsFor
-  byte w g = by-test (eqb (p .page) hostPage) (λ q. rw q (g .typed .host-byte)) (λ q. rw q (g .typed .controller-byte))
+  byte w g = by-test (eqb (p .page) hostPage) (λ q. rw q (g .typed .ranged .host-generation)) (λ q. rw q (g .typed .ranged .controller-generation))
 
   pub sound : (w : World) → faultless (showsFor (p .page) w .fault) ≡ true
   unfolding showsFor

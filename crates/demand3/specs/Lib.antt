@@ -1,3 +1,4 @@
+pub mod Answered
 pub mod Bench
 pub mod Shown
 pub mod Events

@@ -13,13 +13,13 @@ use Rattle.choices.specs.Tests.{clash, each, and-left, and-right}
 use Rattle.copies.specs.Lists.{drop-take}
 use Rattle.answers.specs.Answers.{success, shortBuffer, disagree, brokenCandidate}
 use Rattle.pages.specs.declared.Caps.{Caps}
-use Rattle.pages.specs.Pages.{hostPage, block, lastOf, blocksOf, sizeOf, topOf}
+use Rattle.pages.specs.Pages.{hostPage, block, lastOf, sizeOf, topOf}
 use Rattle.words.specs.declared.Command.{Command}
 use Rattle.words.specs.declared.Words.{Words}
 use Rattle.words.specs.Words.{taken}
 use Rattle.words.specs.Back.{meant}
 use Rattle.header.specs.Header.{headerOf}
-use Rattle.records.specs.Records.{fieldsFor}
+use Rattle.records.specs.Records.{fieldsFor, blocksFor, sizeFor}
 use Rattle.serving.specs.Serving.{windowOf, window-length}
 use Rattle.verdicts.specs.Verdicts.{candidateOk, lastAfter, commandAnswer}
 use Rattle.verdicts.specs.Accepted.{accepted, spared}
@@ -32,11 +32,11 @@ use Rattle.choices.specs.Tests.{same-or-not}
 use Rattle.plans.specs.declared.Phase.the-variants.{Chunk}
 use Rattle.controller.specs.Controller.{World, Candidate, Outcome, outcome, lentBy, afterwards, hostCaptured, commandOf, storeFor, pageOf}
 use Rattle.controller.specs.Laws.{asked, command-answer, refusal-changes-nothing}
-use Rattle.controller.specs.Own.{Ready, sends, asked-is, valid, header-taken, create-taken, last-read, readDone, own-read, own-header, own-create, own-blocks, retained}
+use Rattle.demand3.specs.Answered.{header-long, Ready, sends, asked-is, valid, header-taken, create-taken, last-read, readDone, own-read, own-header, own-create, own-blocks, retained}
 use Rattle.sources.specs.Source.{forLent}
 use Rattle.sources.specs.Keeps.{Header}
 use Rattle.demand3.specs.Bench.{Sent, Loan, actOf, ownOf}
-use Rattle.demand3.specs.Shown.{showsFor, wantedArea, Good, plan-page, header-long, header-shown, area-blocks, area-stored}
+use Rattle.demand3.specs.Shown.{showsFor, wantedArea, Good, plan-page, header-shown, area-blocks, area-stored}
 use Rattle.demand3.specs.Events.{act-good}
 
 -- an answer that is none of 3, 4 and 5
@@ -80,7 +80,7 @@ module _ (p : Plan) (e : setupAnswer p ≡ success) (w : World) (g : Good p w) (
   -- ---- a read that starts within the page is served
 
   pub own-done : (rae : Bool) (offset blocks : ℕ) → taken (p .page) false 0 offset blocks ≡ true
-      → block * offset ≤ sizeOf (w .own .caps) (fieldsFor (p .page) (w .own) .last)
+      → block * offset ≤ sizeFor (p .page) (w .own)
       → forLent (commandOf w candidate (sends (p .page) false 0 rae offset blocks) (l .buf) .answer) ≡ false
       → commandOf w candidate (sends (p .page) false 0 rae offset blocks) (l .buf) ≡ readDone w (p .page) rae offset blocks (l .buf)
   own-done rae offset blocks t near f =
@@ -91,7 +91,7 @@ module _ (p : Plan) (e : setupAnswer p ≡ success) (w : World) (g : Good p w) (
   -- and one that was served started there
   pub own-near : (rae : Bool) (offset blocks : ℕ) → taken (p .page) false 0 offset blocks ≡ true
       → commandOf w candidate (sends (p .page) false 0 rae offset blocks) (l .buf) .answer ≡ success
-      → block * offset ≤ sizeOf (w .own .caps) (fieldsFor (p .page) (w .own) .last)
+      → block * offset ≤ sizeFor (p .page) (w .own)
   own-near rae offset blocks t a =
       let words = sends (p .page) false 0 rae offset blocks in
       let c = meant (p .page) false 0 rae offset blocks in
@@ -115,7 +115,7 @@ module _ (p : Plan) (e : setupAnswer p ≡ success) (w : World) (g : Good p w) (
 
   -- ---- headers
 
-  near-header : block * 0 ≤ sizeOf (w .own .caps) (fieldsFor (p .page) (w .own) .last)
+  near-header : block * 0 ≤ sizeFor (p .page) (w .own)
   near-header = omega arith
 
   own-head : (rae : Bool) → forLent (commandOf w candidate (sends (p .page) false 0 rae 0 1) (l .buf) .answer) ≡ false
@@ -132,7 +132,7 @@ module _ (p : Plan) (e : setupAnswer p ≡ success) (w : World) (g : Good p w) (
       → Header p (ownOf l words w) (showsFor (p .page) v)
   unfolding ownOf
   sent-header v words after k n q =
-      let long = header-long (p .page) v (k .typed) in
+      let long = header-long (p .page) v (k .typed .sized) in
       let bytes : ownOf l words w .bytes ≡ headerOf (fieldsFor (p .page) (v .own)) =
       ap (λ (o : Outcome). take (asked w words .bytes) (o .buf)) q
       ∙ ap (λ (i : ℕ). take i (headerOf (fieldsFor (p .page) (v .own)) ++ drop block (l .buf))) n
@@ -210,8 +210,8 @@ module _ (p : Plan) (e : setupAnswer p ≡ success) (w : World) (g : Good p w) (
     chunk-right f same =
         let k = chunk-inside at (areaLast p last) i in
         let ends = chunk-ends (p .chunk) at (areaLast p last) (k .1) in
-        let b : areaLast p last ≤ blocksOf (w .own .caps) (fieldsFor (p .page) (w .own) .last) =
-        subst (λ (a : List ℕ). areaLast p a ≤ blocksOf (w .own .caps) (fieldsFor (p .page) (w .own) .last)) same (area-blocks p w g e) in
+        let b : areaLast p last ≤ blocksFor (p .page) (w .own) =
+        subst (λ (a : List ℕ). areaLast p a ≤ blocksFor (p .page) (w .own)) same (area-blocks p w g e) in
         let q = own-done true at n is-taken (omega arith) f in
         let stored : wantedArea p w ≡ take (areaBytes p last) (storeFor (p .page) w) =
         area-stored p w g e ∙ ap (λ (a : List ℕ). take (areaBytes p a) (storeFor (p .page) w)) same in

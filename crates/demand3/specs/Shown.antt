@@ -7,19 +7,19 @@ use mathlib.Core.Bool.{Bool, true, false, not, _&&_}
 use native.Mathlib.Omega.{arith}
 use lib.ListN.{length, take, getD}
 use lib.Dec.{eqb}
-use borrow.Author.Tests.{eqb-true, eqb-false, eq-eqb}
+use borrow.Author.Tests.{eqb-false, eq-eqb}
 use Rattle.choices.specs.Choice.{pick, pick-cases}
-use Rattle.choices.specs.Tests.{by-test, clash, each, and-left, or-cases}
+use Rattle.choices.specs.Tests.{by-test, clash, each, and-left}
 use Rattle.answers.specs.Answers.{success}
 use Rattle.pages.specs.declared.Caps.{Caps}
-use Rattle.pages.specs.Pages.{hostPage, controllerPage, telemetryPage, block, lastOf, area4, blocksOf}
+use Rattle.pages.specs.Pages.{hostPage, telemetryPage, block, lastOf, area4, blocksOf, perPage}
 use Rattle.pages.specs.Trimmed.{LastRule}
+use Rattle.pages.specs.Laws.{by-page}
 use Rattle.header.specs.declared.Fields.{Fields}
 use Rattle.header.specs.declared.Fault.the-variants.{None}
 use Rattle.header.specs.Header.{headerOf, checkOf}
-use Rattle.header.specs.Back.{header-length}
-use Rattle.records.specs.Records.{hostFields, controllerFields, fieldsFor}
-use Rattle.records.specs.Back.{agreed, record-reads-back}
+use Rattle.records.specs.Records.{hostFields, controllerFields, fieldsFor, blocksFor}
+use Rattle.records.specs.Back.{Typed, agreed, record-reads-back}
 use Rattle.serving.specs.Serving.{windowOf, window-length}
 use Rattle.plans.specs.declared.Plan.{Plan}
 use Rattle.completions.specs.declared.Seen.{Seen}
@@ -27,12 +27,12 @@ use Rattle.plans.specs.Limits.{plan-taken, plan-limits}
 use Rattle.plans.specs.Plans.{planTests, setupAnswer, areaLast, areaBytes}
 use Rattle.completions.specs.Completions.{generationOf, seenOf}
 use Rattle.controller.specs.Controller.{World, storeFor, pageOf}
-use Rattle.controller.specs.Laws.{Agrees, Typed}
-use Rattle.controller.specs.Own.{own-blocks}
+use Rattle.controller.specs.Laws.{Agrees}
+use Rattle.demand3.specs.Answered.{header-long, own-blocks}
 
 -- the page's own generation
 abbrev pub generationFor : ℕ → World → ℕ
-generationFor page w = pick (eqb page hostPage) (w .own .host .generation) (w .own .controller .generation)
+generationFor page w = perPage page (w .own .host .generation) (w .own .controller .generation)
 
 -- what the header of a page shows
 unfoldable pub showsFor : ℕ → World → Seen
@@ -50,14 +50,14 @@ wantedArea p w = windowOf block (areaBytes p (fieldsFor (p .page) (w .own) .last
 -- a world that the plan was set up for
 pub record Good (p : Plan) (w : World) : Type 0 where
   pub agrees : Agrees w
-  pub typed : Typed w
+  pub typed : Typed (w .own)
   pub caps : w .own .caps ≡ p .caps
 
 -- ---- a header that the controller sends
 
 -- the page's own generation byte is in its place
 generation-at : (page : ℕ) (f : Fields) → f .page ≡ page → length (headerOf f) ≡ block
-    → generationOf page (headerOf f) ≡ pick (eqb page hostPage) (f .hostgeneration) (f .controllergeneration)
+    → generationOf page (headerOf f) ≡ perPage page (f .hostgeneration) (f .controllergeneration)
 unfolding generationOf headerOf
 generation-at page f e l = rw (eq-eqb _ block l, e) (by (eqb page hostPage))
   where
@@ -67,19 +67,9 @@ generation-at page f e l = rw (eq-eqb _ block l, e) (by (eqb page hostPage))
 
 fields-page : (page : ℕ) (w : World) → telemetryPage page ≡ true → fieldsFor page (w .own) .page ≡ page
 unfolding fieldsFor hostFields controllerFields
-fields-page page w t =
-    or-cases (eqb page hostPage) (eqb page controllerPage) t
-    (λ e. rw (eqb-true page hostPage e))
-    (λ e. rw (eqb-true page controllerPage e))
+fields-page page w t = by-page (λ (n : ℕ). fieldsFor n (w .own) .page ≡ n) page t refl refl
 
-reason-long : (page : ℕ) (w : World) → Typed w → length (fieldsFor page (w .own) .reason) ≡ 128
-unfolding fieldsFor hostFields controllerFields
-reason-long page w z = by-test (eqb page hostPage) (λ e. rw e (z .sized .host-reason)) (λ e. rw e (z .sized .controller-reason))
-
-pub header-long : (page : ℕ) (w : World) → Typed w → length (headerOf (fieldsFor page (w .own))) ≡ block
-header-long page w z = header-length (fieldsFor page (w .own)) (reason-long page w z)
-
-generation-shown : (page : ℕ) (w : World) → pick (eqb page hostPage) (fieldsFor page (w .own) .hostgeneration) (fieldsFor page (w .own) .controllergeneration) ≡ generationFor page w
+generation-shown : (page : ℕ) (w : World) → perPage page (fieldsFor page (w .own) .hostgeneration) (fieldsFor page (w .own) .controllergeneration) ≡ generationFor page w
 unfolding fieldsFor hostFields controllerFields
 generation-shown page w = by-test (eqb page hostPage) (λ e. rw e) (λ e. rw e)
 
@@ -92,7 +82,7 @@ header-shown p w g t =
     ap (λ (c : Caps). checkOf (p .page) (c .da4s) (headerOf (fieldsFor (p .page) (w .own)))) (sym (g .caps))
     ∙ record-reads-back (w .own) (length (w .host)) (length (w .controller)) (p .page) (g .typed .sized) (g .agrees) t in
     let gen : generationOf (p .page) (headerOf (fieldsFor (p .page) (w .own))) ≡ generationFor (p .page) w =
-    generation-at (p .page) (fieldsFor (p .page) (w .own)) (fields-page (p .page) w t) (header-long (p .page) w (g .typed)) ∙ generation-shown (p .page) w in
+    generation-at (p .page) (fieldsFor (p .page) (w .own)) (fields-page (p .page) w t) (header-long (p .page) w (g .typed .sized)) ∙ generation-shown (p .page) w in
     rw (back, gen)
 
 -- ---- the wanted area
@@ -121,7 +111,7 @@ within-page caps area a r low high e =
     (λ f. nests (caps .da4s) area (getD a 2 0) a r low high (omega arith) (λ q. clash {t = true} refl (rw (f, q) at e)))
 
 pub area-blocks : (p : Plan) (w : World) → Good p w → setupAnswer p ≡ success
-    → areaLast p (fieldsFor (p .page) (w .own) .last) ≤ blocksOf (w .own .caps) (fieldsFor (p .page) (w .own) .last)
+    → areaLast p (fieldsFor (p .page) (w .own) .last) ≤ blocksFor (p .page) (w .own)
 area-blocks p w g e =
     let l = plan-limits p e in
     let a : List ℕ = fieldsFor (p .page) (w .own) .last in

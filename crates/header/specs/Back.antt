@@ -14,7 +14,7 @@ use Rattle.copies.specs.Parts.{zeros, putAt, put-end}
 use Rattle.littleendian.specs.Numbers.{bytesOf, valueAt, reasonAt}
 use Rattle.littleendian.specs.Back.{value-back}
 use Rattle.littleendian.specs.Puts.{then}
-use Rattle.pages.specs.Pages.{hostPage, block}
+use Rattle.pages.specs.Pages.{hostPage, block, perPage}
 use Rattle.pages.specs.Trimmed.{LastRule, last-rule}
 use Rattle.header.specs.declared.Fields.{Fields}
 use Rattle.header.specs.declared.Fault.{Fault}
@@ -48,8 +48,8 @@ write-is f {o = o} l en em e1 e2 e3 =
 
 -- the fields, from what each call reads
 pub fields-are : (page : ℕ) (h : List ℕ) {oui scope generation : ℕ} {last reason : List ℕ} → oui ≡ valueAt 3 5 h → last ≡ lastAt h
-    → reason ≡ reasonAt 384 h → scope ≡ pick (eqb page hostPage) (getD h 380 0) (getD h 381 0)
-    → generation ≡ pick (eqb page hostPage) (getD h 381 0) 0
+    → reason ≡ reasonAt 384 h → scope ≡ perPage page (getD h 380 0) (getD h 381 0)
+    → generation ≡ perPage page (getD h 381 0) 0
     → record { page = getD h 0 0; oui = oui; last = last; scope = scope; hostgeneration = generation; tcda = getD h 382 0; controllergeneration = getD h 383 0; reason = reason }
     ≡ fieldsOf page h
 fields-are page h o l r s g = rw (o, l, r, s, g)

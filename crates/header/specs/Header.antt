@@ -10,7 +10,7 @@ use Rattle.choices.specs.Choice.{pick, firstThat}
 use Rattle.choices.specs.Tests.{holds}
 use Rattle.copies.specs.Parts.{zeros}
 use Rattle.littleendian.specs.Numbers.{bytesOf, valueAt, reasonAt}
-use Rattle.pages.specs.Pages.{hostPage, telemetryPage, block, area2Ok, area3Ok, area4Ok, lastOk}
+use Rattle.pages.specs.Pages.{hostPage, telemetryPage, block, area2Ok, area3Ok, area4Ok, lastOk, perPage}
 use Rattle.answers.specs.Answers.{success, badHeader}
 use Rattle.header.specs.declared.Fields.{Fields}
 use Rattle.header.specs.declared.Fault.{Fault}
@@ -31,8 +31,8 @@ numbers page oui last =
 -- bytes 380 to 383: on 07h scope and host generation, on 08h zero and scope; then TCDA and the controller generation
 abbrev pub marks : Fields → List ℕ
 marks f =
-    pick (eqb (f .page) hostPage) (f .scope) 0
-    ∷ pick (eqb (f .page) hostPage) (f .hostgeneration) (f .scope)
+    perPage (f .page) (f .scope) 0
+    ∷ perPage (f .page) (f .hostgeneration) (f .scope)
     ∷ f .tcda
     ∷ f .controllergeneration
     ∷ []
@@ -53,8 +53,8 @@ fieldsOf page h = record {
   page = getD h 0 0;
   oui = valueAt 3 5 h;
   last = lastAt h;
-  scope = pick (eqb page hostPage) (getD h 380 0) (getD h 381 0);
-  hostgeneration = pick (eqb page hostPage) (getD h 381 0) 0;
+  scope = perPage page (getD h 380 0) (getD h 381 0);
+  hostgeneration = perPage page (getD h 381 0) 0;
   tcda = getD h 382 0;
   controllergeneration = getD h 383 0;
   reason = reasonAt 384 h;

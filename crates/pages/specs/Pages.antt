@@ -20,6 +20,10 @@ controllerPage = 0x08
 abbrev pub telemetryPage : ℕ → Bool
 telemetryPage page = eqb page hostPage || eqb page controllerPage
 
+-- what is 07h's, else 08h's
+abbrev pub perPage : {A : Type 0} → ℕ → A → A → A
+perPage page host controller = pick (eqb page hostPage) host controller
+
 -- the bytes of a block, and of the header
 abbrev pub block : ℕ
 block = 512

@@ -13,6 +13,7 @@ use Rattle.choices.specs.Tests.{holds, each, or-cases, clash, implied, implies}
 use Rattle.pages.specs.Pages.{hostPage, controllerPage, telemetryPage, block, area4Ok, lastOk, greatestOf}
 use Rattle.pages.specs.Trimmed.{LastRule, last-rule, rule-last}
 use Rattle.pages.specs.declared.Caps.{Caps}
+use Rattle.pages.specs.Laws.{by-page, rule-ranged}
 use Rattle.header.specs.declared.Fault.the-variants.{None}
 use Rattle.header.specs.Header.{headerOf, fieldsOk, checkOf}
 use Rattle.header.specs.Back.{header-reads-back}
@@ -76,7 +77,7 @@ pub agrees-where : (r : Record) (hostStore controllerStore : ℕ) → Agreed r h
 unfolding agreesWith holds
 agrees-where r hostStore controllerStore a = rw (fits-store _ _ _ (a .host), fits-controller _ _ _ _ (a .controller)) (a .identity)
 
--- ---- reading back
+-- ---- what the types say
 
 -- the lengths that the types of a record's arrays say
 pub record Sized (r : Record) : Type 0 where
@@ -114,6 +115,24 @@ known i e = record {
   short = ltb-true _ _ (each _ e 2);
 }
 
+-- an agreeing record with whole arrays, whose generations are bytes, is all that its types say
+pub agreed-typed : (r : Record) (hostStore controllerStore : ℕ) → agreesWith r hostStore controllerStore ≡ true → Sized r
+    → r .host .generation < 256 → r .controller .generation < 256 → Typed r
+agreed-typed r hostStore controllerStore e z host controller =
+    let a = agreed r hostStore controllerStore e in
+    record {
+      sized = z;
+      ranged = record {
+        oui = omega (arith, known (r .identity) (a .identity) .short);
+        host-last = rule-ranged (r .caps .da4s) (r .host .last) (a .host .rule) (z .host-four);
+        controller-last = rule-ranged (r .caps .da4s) (r .controller .last) (a .controller .fits .rule) (z .controller-four);
+        host-generation = host;
+        controller-generation = controller;
+      };
+    }
+
+-- ---- reading back
+
 -- TCDA 0, or not empty
 available : (tcda a3 : ℕ) → tcda ≤ 1 → (tcda ≡ 1 → 0 < a3) → eqb tcda 0 || ltb 0 a3 ≡ true
 available zero a3 h f = refl
@@ -147,17 +166,13 @@ unfolding fieldsFor hostFields controllerFields
 record-reads-back r hostStore controllerStore page z e p =
     let a = agreed r hostStore controllerStore e in
     let k = known (r .identity) (a .identity) in
-    or-cases (eqb page hostPage) (eqb page controllerPage) p
-    (λ q.
-    rw (eqb-true page hostPage q)
+    by-page (λ (n : ℕ). checkOf n (r .caps .da4s) (headerOf (fieldsFor n r)) ≡ record { fault = None; fields = fieldsFor n r }) page p
     (header-reads-back (r .caps .da4s) (hostFields r)
     (record { oui = k .short; four = z .host-four; host = λ n. clash refl n; reason = z .host-reason })
-    (host-fine r hostStore controllerStore a)))
-    (λ q.
-    rw (eqb-true page controllerPage q)
+    (host-fine r hostStore controllerStore a))
     (header-reads-back (r .caps .da4s) (controllerFields r)
     (record { oui = k .short; four = z .controller-four; host = λ n. refl; reason = z .controller-reason })
-    (controller-fine r hostStore controllerStore a)))
+    (controller-fine r hostStore controllerStore a))
 
 no-area4 : (da4s : Bool) → area4Ok da4s 0 0 ≡ true
 no-area4 true = refl
@@ -169,3 +184,10 @@ pub fresh-agrees : (caps : Caps) (identity : Identity) (hostStore controllerStor
 unfolding freshOf agreesWith controllerOk storeOk lastOk holds greatestOf
 fresh-agrees caps identity hostStore controllerStore e =
     rw (no-area4 (caps .da4s), le-leb 0 hostStore (omega arith), le-leb 0 controllerStore (omega arith)) e
+
+-- and is all that its types say
+pub fresh-typed : (caps : Caps) (identity : Identity) → identityOk identity ≡ true → Typed (freshOf caps identity)
+unfolding freshOf
+fresh-typed caps identity e =
+    agreed-typed (freshOf caps identity) 0 0 (fresh-agrees caps identity 0 0 e)
+    (record { host-four = refl; host-reason = refl; controller-four = refl; controller-reason = refl }) (omega arith) (omega arith)

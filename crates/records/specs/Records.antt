@@ -5,10 +5,9 @@ use mathlib.Core.List.{List, [], _∷_}
 use mathlib.Core.Bool.{Bool, false, not, _||_}
 use lib.ListN.{getD}
 use lib.Dec.{ltb, leb, eqb}
-use Rattle.choices.specs.Choice.{pick}
 use Rattle.choices.specs.Tests.{holds}
 use Rattle.copies.specs.Parts.{zeros}
-use Rattle.pages.specs.Pages.{hostPage, controllerPage, block, lastOk, greatestOf}
+use Rattle.pages.specs.Pages.{hostPage, controllerPage, block, lastOk, greatestOf, perPage, blocksOf, sizeOf}
 use Rattle.pages.specs.declared.Caps.{Caps}
 use Rattle.header.specs.declared.Fields.{Fields}
 use Rattle.records.specs.declared.Identity.{Identity}
@@ -74,7 +73,14 @@ controllerFields r = record {
 
 -- what a header of the page shows
 unfoldable pub fieldsFor : ℕ → Record → Fields
-fieldsFor page r = pick (eqb page hostPage) (hostFields r) (controllerFields r)
+fieldsFor page r = perPage page (hostFields r) (controllerFields r)
+
+-- the page's blocks after its header, and its size in bytes
+abbrev pub blocksFor : ℕ → Record → ℕ
+blocksFor page r = blocksOf (r .caps) (fieldsFor page r .last)
+
+abbrev pub sizeFor : ℕ → Record → ℕ
+sizeFor page r = sizeOf (r .caps) (fieldsFor page r .last)
 
 -- a record before any capture
 unfoldable pub freshOf : Caps → Identity → Record

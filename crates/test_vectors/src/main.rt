@@ -25,7 +25,7 @@ fn word(n: u32) {
 fn class(identifier: u8) {
     io::print_hex(STDOUT_FILENO, identifier as u64, 2);
     say(b" ");
-    decimal(classes::class(identifier) as u64);
+    decimal(answers::class(identifier) as u64);
     say(b"\n");
 }
 

@@ -9,7 +9,7 @@ use Rattle.choices.specs.Choice.{pick, firstThat}
 use Rattle.choices.specs.Tests.{holds}
 use Rattle.answers.specs.Answers.{success, invalidField, invalidLogPage, shortBuffer, disagree, brokenCandidate}
 use Rattle.pages.specs.declared.Caps.{Caps}
-use Rattle.pages.specs.Pages.{hostPage, telemetryPage, block, most3, most4, lastOf, sizeOf, topOf, trimOf}
+use Rattle.pages.specs.Pages.{telemetryPage, block, most3, most4, lastOf, sizeOf, topOf, trimOf, perPage}
 use Rattle.words.specs.declared.Command.{Command}
 use Rattle.records.specs.declared.Record.{Record}
 use Rattle.records.specs.Records.{agreesWith}
@@ -58,7 +58,7 @@ fieldBad caps c =
 
 -- the last blocks of the page asked for, after the command's capture if it makes one
 unfoldable pub lastAfter : Record → Command → List ℕ → List ℕ
-lastAfter r c a = pick (eqb (c .page) hostPage) (pick (c .create) (trimOf (r .caps) (c .mcda) a) (r .host .last)) (r .controller .last)
+lastAfter r c a = perPage (c .page) (pick (c .create) (trimOf (r .caps) (c .mcda) a) (r .host .last)) (r .controller .last)
 
 -- ---- the answers
 

@@ -1,4 +1,4 @@
--- `classes::class` meets its contract: that each entry is the digit of its identifier's class is one test, which antt computes over
+-- `answers::class` meets its contract: that each entry is the digit of its identifier's class is one test, which antt computes over
 -- the code's own table, and a u8 is below the table's length.
 -- Assumes nothing.
 use mathlib.Core.Path.{_≡_}
@@ -10,10 +10,10 @@ use lib.Dec.{eqb}
 use lib.ListN.{length, getD}
 use borrow.Author.Needs.{needs}
 use borrow.Author.Tests.{eqb-true}
-use Rattle.classes.specs.Classes.{classOf}
-use Rattle.classes.proofs.Table.{every, at}
-use Rattle.classes.proofs.class.Statement.{statement}
-use Rattle.classes.proofs.class.Tie as tie
+use Rattle.answers.specs.Classes.{classOf}
+use Rattle.answers.proofs.Table.{every, at}
+use Rattle.answers.proofs.class.Statement.{statement}
+use Rattle.answers.proofs.class.Tie as tie
 
 -- x is the digit of k's class
 abbrev right : ℕ → ℕ → Bool
