@@ -19,6 +19,7 @@ use Rattle.plans.specs.declared.Phase.the-variants.{First, Ended}
 use Rattle.plans.specs.Phases.{endedBy}
 use Rattle.plans.specs.Plans.{mostAttempts, setupAnswer, wordsBy, expectedBy, withinBy, awaitedBy}
 use Rattle.completions.specs.declared.Seen.{Seen}
+use Rattle.completions.specs.declared.Touch.{Touch}
 use Rattle.completions.specs.declared.Touch.the-variants.{Keep}
 use Rattle.completions.specs.Completions.{lookBy, touched}
 use Rattle.judgement.specs.declared.Ending.{Ending}
@@ -72,15 +73,12 @@ validState s =
 unfoldable pub completionFits : Collection → Bool → ℕ → ℕ → Bool
 completionFits s ok bytes copy = eqb copy (s .plan .room) && eqb bytes (pick ok (expectedOf s) 0)
 
--- the first that holds, or 0
+-- in this order, or 0
+abbrev pub firstRefusal : Bool → Bool → Bool → ℕ
+firstRefusal over valid fits = firstThat ((over, alreadyEnded) ∷ (not valid, badSetup) ∷ (not fits, doesNotFit) ∷ []) success
+
 unfoldable pub refusalOf : Collection → Bool → ℕ → ℕ → ℕ
-refusalOf s ok bytes copy =
-    firstThat
-    ((endedBy (s .phase), alreadyEnded)
-    ∷ (not (validState s), badSetup)
-    ∷ (not (completionFits s ok bytes copy), doesNotFit)
-    ∷ [])
-    success
+refusalOf s ok bytes copy = firstRefusal (endedBy (s .phase)) (validState s) (completionFits s ok bytes copy)
 
 -- ---- what becomes of the state, and what happens to the copy
 
@@ -113,6 +111,10 @@ sends s = record { state = s; next = Send (awaitedOf s) }
 abbrev pub ends : Collection → Ending → Stepped
 ends s e = record { state = s; next = Ends (record { ending = e; count = s .count }) }
 
+-- a refusal leaves the state
+abbrev pub refuses : Collection → ℕ → Stepped
+refuses s answer = record { state = s; next = Refuse answer }
+
 -- every command sent is counted
 unfoldable pub actOf : Collection → Move → Turn → Stepped
 actOf s (End e next) t = ends (turnedTo s t (s .count)) e
@@ -121,13 +123,17 @@ actOf s (More at) t = sends (turnedTo s t (s .count + 1))
 actOf s Skip t = sends (turnedTo s t (s .count + 1))
 actOf s Acknowledge t = sends (turnedTo s t (s .count + 1))
 
+-- a step and what happens to the copy with it
+abbrev pub decidedBy : Stepped → Touch → Decided
+decidedBy stepped touch = record { stepped = stepped; touch = touch }
+
 -- a move is made
 abbrev pub madeOf : Collection → Seen → Move → Decided
-madeOf s h m = record { stepped = actOf s m (turnBy s h m); touch = turnBy s h m .touch }
+madeOf s h m = decidedBy (actOf s m (turnBy s h m)) (turnBy s h m .touch)
 
 -- a refusal changes nothing
 abbrev pub refusedOf : Collection → ℕ → Decided
-refusedOf s answer = record { stepped = record { state = s; next = Refuse answer }; touch = Keep }
+refusedOf s answer = decidedBy (refuses s answer) Keep
 
 -- the core: it knows of a completion whether it is a success, its data's length, what was seen of it, and the copy's length
 unfoldable pub decideOf : Collection → Bool → ℕ → ℕ → Seen → Decided
@@ -144,8 +150,8 @@ beginning p f count = record { plan = p; phase = f; attempt = record { number = 
 unfoldable pub setupOf : Plan → Stepped
 setupOf p =
     pick (eqb (setupAnswer p) success)
-    (record { state = beginning p First 1; next = Send (awaitedOf (beginning p First 1)) })
-    (record { state = beginning p Ended 0; next = Refuse (setupAnswer p) })
+    (sends (beginning p First 1))
+    (refuses (beginning p Ended 0) (setupAnswer p))
 
 -- a step on data d and a copy of n bytes
 unfoldable pub stepOf : Collection → Bool → List ℕ → ℕ → Stepped

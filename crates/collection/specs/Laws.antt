@@ -2,14 +2,13 @@
 -- Assumes nothing.
 use Prim.Native.Nat.{ℕ, _≤_, _<_}
 use mathlib.Core.Path.{_≡_, refl, sym, ap, _∙_}
-use mathlib.Core.List.{[], _∷_}
 use mathlib.Core.Bool.{Bool, true, false, not, _&&_}
 use native.Mathlib.Omega.{arith}
 use lib.Dec.{leb, eqb}
 use borrow.Author.Tests.{leb-true, leb-false, eqb-true, ne-eqb}
-use Rattle.choices.specs.Choice.{pick, pick-cases, firstThat}
+use Rattle.choices.specs.Choice.{pick, pick-cases}
 use Rattle.choices.specs.Tests.{each, and-left, and-right, no-not}
-use Rattle.answers.specs.Answers.{success, badSetup, alreadyEnded, doesNotFit}
+use Rattle.answers.specs.Answers.{success}
 use Rattle.pages.specs.Pages.{controllerPage}
 use Rattle.header.specs.Header.{faultless}
 use Rattle.plans.specs.declared.Phase.{Phase}
@@ -27,7 +26,7 @@ use Rattle.judgement.specs.Judgement.{matches, newerThan, testsOf, firstOrder, 
 use Rattle.turns.specs.Turns.{good}
 use Rattle.collection.specs.declared.Collection.{Collection}
 use Rattle.collection.specs.declared.Decided.{Decided}
-use Rattle.collection.specs.Collection.{mostCount, validState, completionFits, expectedOf, refusalOf, moveOf, madeOf, refusedOf, decideOf, Bounded}
+use Rattle.collection.specs.Collection.{mostCount, validState, completionFits, expectedOf, firstRefusal, refusalOf, moveOf, madeOf, refusedOf, decideOf, Bounded}
 
 -- ---- a valid state
 
@@ -64,7 +63,7 @@ pub record Taken (s : Collection) (ok : Bool) (bytes copy : ℕ) : Type 0 where
   pub copy-fits : copy ≡ s .plan .room
   pub bytes-fit : bytes ≡ pick ok (expectedOf s) 0
 
-three : (a b c : Bool) → firstThat ((a, alreadyEnded) ∷ (not b, badSetup) ∷ (not c, doesNotFit) ∷ []) success ≡ success
+three : (a b c : Bool) → firstRefusal a b c ≡ success
     → (a ≡ false) × (b ≡ true) × (c ≡ true)
 three true b c e = absurd (omega arith)
 three false false c e = absurd (omega arith)

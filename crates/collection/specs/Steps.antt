@@ -29,10 +29,9 @@ use Rattle.judgement.specs.declared.Move.the-variants.{End, Open, More, Skip, A
 use Rattle.judgement.specs.Judgement.{matches, newerThan, testsOf, firstOrder, matchOrder, laterOrder, judgeBy}
 use Rattle.turns.specs.Turns.{openingOf, followingOf, leftBy, turnOf}
 use Rattle.collection.specs.declared.Collection.{Collection}
-use Rattle.collection.specs.declared.Next.the-variants.{Send, Refuse}
 use Rattle.collection.specs.declared.Stepped.{Stepped}
 use Rattle.collection.specs.declared.Decided.{Decided}
-use Rattle.collection.specs.Collection.{validState, lookOf, refusalOf, moveOf, turnBy, numberIn, sends, ends, actOf, madeOf, stepOf, copyAfter, awaitedOf, beginning, setupOf}
+use Rattle.collection.specs.Collection.{validState, lookOf, refusalOf, moveOf, turnBy, numberIn, sends, ends, refuses, actOf, madeOf, stepOf, copyAfter, beginning, setupOf}
 use Rattle.collection.specs.Laws.{state-valid, decide-yes, decide-no}
 
 -- the state with another command sent in its attempt
@@ -99,25 +98,22 @@ awaited-taken s e g = awaited-built (s .phase) (s .plan) (s .attempt .last) (sta
 
 -- setup where its answer is known
 setupBy : Bool → Plan → Stepped
-setupBy t p =
-    pick t
-    (record { state = beginning p First 1; next = Send (awaitedOf (beginning p First 1)) })
-    (record { state = beginning p Ended 0; next = Refuse (setupAnswer p) })
+setupBy t p = pick t (sends (beginning p First 1)) (refuses (beginning p Ended 0) (setupAnswer p))
 
 pub setup-taken : (p : Plan) → setupAnswer p ≡ success
-    → setupOf p ≡ record { state = beginning p First 1; next = Send (awaitedOf (beginning p First 1)) }
+    → setupOf p ≡ sends (beginning p First 1)
 unfolding setupOf setupBy
 setup-taken p e = ap (λ (t : Bool). setupBy t p) (eq-eqb (setupAnswer p) success e)
 
 pub setup-refused : (p : Plan) → (setupAnswer p ≡ success → ⊥)
-    → setupOf p ≡ record { state = beginning p Ended 0; next = Refuse (setupAnswer p) }
+    → setupOf p ≡ refuses (beginning p Ended 0) (setupAnswer p)
 unfolding setupOf setupBy
 setup-refused p e = ap (λ (t : Bool). setupBy t p) (ne-eqb (setupAnswer p) success e)
 
 -- ---- a refusal changes nothing
 
 pub refused-step : (s : Collection) (ok : Bool) (d : List ℕ) (n : ℕ) → (refusalOf s ok (length d) n ≡ success → ⊥)
-    → stepOf s ok d n ≡ record { state = s; next = Refuse (refusalOf s ok (length d) n) }
+    → stepOf s ok d n ≡ refuses s (refusalOf s ok (length d) n)
 unfolding stepOf
 refused-step s ok d n r = ap (λ (x : Decided). x .stepped) (sym (decide-no s ok (length d) n (lookOf s d) _ _ refl r refl))
 

@@ -16,7 +16,7 @@ use turns::Turn;
 use words::Words;
 ghost use mathlib.Core.Path.{_≡_};
 ghost use lib.ListN.{length};
-ghost use Rattle.collection.specs.Collection.{dueOf, awaitedOf, mostCount, validState, completionFits, refusalOf, turnedTo, sends, ends, refusedOf, actOf, decideOf, beginning, setupOf, stepOf, copyAfter, Bounded};
+ghost use Rattle.collection.specs.Collection.{dueOf, awaitedOf, mostCount, firstRefusal, refusalOf, turnedTo, sends, ends, refuses, decidedBy, actOf, moveOf, madeOf, decideOf, beginning, setupOf, stepOf, copyAfter, Bounded};
 
 // The most commands of one attempt: the chunks of the largest area, a block each, and the closing header.
 const MOST_OF_ATTEMPT: u64 = 1048577;
@@ -53,10 +53,32 @@ pub struct Decided {
     pub touch: Touch,
 }
 
+fn with_touch(stepped: Stepped, touch: Touch) -> Decided
+    ensures { λ r. ⌜ r ≡ decidedBy stepped touch ⌝ }
+{
+    Decided { stepped, touch }
+}
+
 fn most_count(attempts: u32) -> u64
     ensures { λ r. ⌜ r ≡ mostCount attempts ⌝ }
 {
     2 + (attempts as u64) * MOST_OF_ATTEMPT
+}
+
+// The first that speaks against a step: the state is over, it is not valid, the completion does not fit.
+fn first_refusal(over: bool, valid: bool, fits: bool) -> u8
+    ensures { λ r. ⌜ r ≡ firstRefusal over valid fits ⌝ }
+{
+    if over {
+        return answers::ALREADY_ENDED;
+    }
+    if !valid {
+        return answers::BAD_SETUP;
+    }
+    if !fits {
+        return answers::DOES_NOT_FIT;
+    }
+    answers::SUCCESS
 }
 
 impl Collection {
@@ -78,37 +100,20 @@ impl Collection {
         due.words
     }
 
-    fn valid(self) -> bool
-        ensures { λ r. ⌜ r ≡ validState self ⌝ }
-    {
-        let plan = self.plan;
-        let attempt = self.attempt;
-        let due = self.due();
-        (plans::setup_answer(plan) == answers::SUCCESS)
-            & ((1 <= attempt.number) & (attempt.number <= plan.attempts))
-            & (self.count <= most_count(plan.attempts))
-            & due.within
-    }
-
-    fn completion_fits(self, ok: bool, bytes: usize, copy: usize) -> bool
-        ensures { λ r. ⌜ r ≡ completionFits self ok bytes copy ⌝ }
-    {
-        let plan = self.plan;
-        let due = self.due();
-        (copy == plan.room) & (bytes == choices::pick_usize(ok, due.bytes, 0))
-    }
-
     // 14, 13, 15, or 0.
     fn refusal(self, ok: bool, bytes: usize, copy: usize) -> u8
         ensures { λ r. ⌜ r ≡ refusalOf self ok bytes copy ⌝ }
     {
+        let plan = self.plan;
         let phase = self.phase;
-        let over = plans::ended(phase);
-        let bad = !self.valid();
-        let unfit = !self.completion_fits(ok, bytes, copy);
-        let fit = choices::pick_u8(unfit, answers::DOES_NOT_FIT, answers::SUCCESS);
-        let kept = choices::pick_u8(bad, answers::BAD_SETUP, fit);
-        choices::pick_u8(over, answers::ALREADY_ENDED, kept)
+        let attempt = self.attempt;
+        let due = self.due();
+        let valid = (plans::setup_answer(plan) == answers::SUCCESS)
+            & ((1 <= attempt.number) & (attempt.number <= plan.attempts))
+            & (self.count <= most_count(plan.attempts))
+            & due.within;
+        let fits = (copy == plan.room) & (bytes == choices::pick_usize(ok, due.bytes, 0));
+        first_refusal(plans::ended(phase), valid, fits)
     }
 
     // The state that a turn leads to, after this many commands.
@@ -157,15 +162,12 @@ impl Collection {
         }
     }
 
-    fn refused(self, answer: u8) -> Decided
-        ensures { λ r. ⌜ r ≡ refusedOf self answer ⌝ }
+    fn refused(self, answer: u8) -> Stepped
+        ensures { λ r. ⌜ r ≡ refuses self answer ⌝ }
     {
-        Decided {
-            stepped: Stepped {
-                state: self,
-                next: Next::Refuse(answer),
-            },
-            touch: Touch::Keep,
+        Stepped {
+            state: self,
+            next: Next::Refuse(answer),
         }
     }
 
@@ -183,23 +185,30 @@ impl Collection {
         }
     }
 
+    // What the completion calls for is made.
+    fn made(self, ok: bool, seen: Seen) -> Decided
+        requires { ⌜ Bounded self ⌝ }
+        ensures { λ r. ⌜ r ≡ madeOf self seen (moveOf self ok seen) ⌝ }
+    {
+        let plan = self.plan;
+        let phase = self.phase;
+        let attempt = self.attempt;
+        let m = judgement::judge(phase, plan, attempt, ok, seen);
+        let t = turns::turn_of(plan, attempt, seen, m);
+        let touch = t.touch;
+        with_touch(self.act(m, t), touch)
+    }
+
     // The next state, with the next command or the ending, and what happens to the copy, from what is known of a completion: that it is
     // a success, its data's length, what was seen of the data (`completions::look`), and the length of the copy.
     pub fn decide(self, ok: bool, bytes: usize, copy: usize, seen: Seen) -> Decided
         ensures { λ r. ⌜ r ≡ decideOf self ok bytes copy seen ⌝ }
     {
-        let plan = self.plan;
-        let phase = self.phase;
-        let attempt = self.attempt;
         let answer = self.refusal(ok, bytes, copy);
         if answer == answers::SUCCESS {
-            let m = judgement::judge(phase, plan, attempt, ok, seen);
-            let t = turns::turn_of(plan, attempt, seen, m);
-            let touch = t.touch;
-            let stepped = self.act(m, t);
-            return Decided { stepped, touch };
+            return self.made(ok, seen);
         }
-        self.refused(answer)
+        with_touch(self.refused(answer), Touch::Keep)
     }
 
     // The next state, with the next command or the ending. A good chunk is written to its place in the copy, an ending zeroes the copy or
@@ -239,16 +248,7 @@ pub fn setup(plan: Plan) -> Stepped
 {
     let answer = plans::setup_answer(plan);
     if answer == answers::SUCCESS {
-        let state = beginning_of(plan, Phase::First, 1);
-        let words = state.awaited();
-        return Stepped {
-            state,
-            next: Next::Send(words),
-        };
+        return beginning_of(plan, Phase::First, 1).sent();
     }
-    let state = beginning_of(plan, Phase::Ended, 0);
-    Stepped {
-        state,
-        next: Next::Refuse(answer),
-    }
+    beginning_of(plan, Phase::Ended, 0).refused(answer)
 }

@@ -1,15 +1,14 @@
 -- What a command and a capture do: document 01, "Captures" and "Answer numbers". A world is a record with both stores.
 -- Assumes nothing.
-use Prim.Native.Nat.{ℕ, _+_, _*_, _%_}
+use Prim.Native.Nat.{ℕ, _+_}
 use mathlib.Core.List.{List, [], _++_}
-use mathlib.Core.Bool.{true, false, not, _&&_}
-use lib.ListN.{length, take, drop}
+use mathlib.Core.Bool.{not, _&&_}
+use lib.ListN.{length, drop}
 use lib.Dec.{eqb}
 use Rattle.choices.specs.Choice.{pick}
-use Rattle.copies.specs.Parts.{zeros, putAt}
 use Rattle.answers.specs.Answers.{success, invalidLogPage}
 use Rattle.answers.specs.Classes.{classOf}
-use Rattle.pages.specs.Pages.{controllerPage, block, lastOf, topOf, trimOf, perPage}
+use Rattle.pages.specs.Pages.{controllerPage, lastOf, topOf, trimOf, perPage}
 use Rattle.words.specs.declared.Command.{Command}
 use Rattle.words.specs.declared.Words.{Words}
 use Rattle.words.specs.Words.{readOf}
@@ -17,6 +16,7 @@ use Rattle.header.specs.Header.{headerOf}
 use Rattle.records.specs.declared.Record.{Record}
 use Rattle.records.specs.Records.{fieldsFor, blocksFor}
 use Rattle.serving.specs.Serving.{pageBytes, windowOf}
+use Rattle.captures.specs.Captures.{keptIn, reasonOf, hostTaken, controllerTaken, clearedOf}
 use Rattle.verdicts.specs.declared.Lent.{Lent}
 use Rattle.verdicts.specs.Verdicts.{commandAnswer, captureAnswer}
 
@@ -52,60 +52,25 @@ pageOf page w =
 
 -- ---- captures and the acknowledgement
 
--- up by one, and 255 is followed by 0
-abbrev pub nextGeneration : ℕ → ℕ
-nextGeneration g = (g + 1) % 256
-
--- the record with these last blocks and this reason captured on 07h
-abbrev pub hostTaken : Record → List ℕ → List ℕ → Record
-hostTaken r last reason = record {
-  caps = r .caps;
-  identity = r .identity;
-  host = record { last = last; generation = nextGeneration (r .host .generation); reason = reason };
-  controller = r .controller;
-}
-
--- and on 08h: TCDA and the notice are set
-abbrev pub controllerTaken : Record → List ℕ → List ℕ → Record
-controllerTaken r last reason = record {
-  caps = r .caps;
-  identity = r .identity;
-  host = r .host;
-  controller = record { last = last; generation = nextGeneration (r .controller .generation); tcda = 1; notice = true; reason = reason };
-}
-
--- the record with TCDA, the notice and the four last blocks of 08h cleared; reason and generation stay
-abbrev pub clearedOf : Record → Record
-clearedOf r = record {
-  caps = r .caps;
-  identity = r .identity;
-  host = r .host;
-  controller = record { last = zeros 4; generation = r .controller .generation; tcda = 0; notice = false; reason = r .controller .reason };
-}
-
--- a store with a candidate's first blocks, the rest as it was
-abbrev pub keptIn : List ℕ → Candidate → ℕ → List ℕ
-keptIn store candidate blocks = putAt store 0 (take (block * blocks) (candidate .bytes))
-
--- the record and the host store after a command's own capture, if it makes one: what its reason has past 128 bytes is not kept
+-- the record and the host store after a command's own capture, if it makes one
 abbrev pub recordMade : Record → Command → List ℕ → List ℕ → Record
-recordMade r c last reason = pick (c .create) (hostTaken r (trimOf (r .caps) (c .mcda) last) (putAt (zeros 128) 0 reason)) r
+recordMade r c last reason = pick (c .create) (hostTaken r (trimOf (r .caps) (c .mcda) last) (reasonOf reason)) r
 
 abbrev pub storeMade : Record → Command → List ℕ → List ℕ → List ℕ → List ℕ
-storeMade r c last bytes store = pick (c .create) (putAt store 0 (take (block * lastOf (topOf (r .caps) (c .mcda)) last) bytes)) store
+storeMade r c last bytes store = pick (c .create) (keptIn store bytes (lastOf (topOf (r .caps) (c .mcda)) last)) store
 
 -- a host capture under an MCDA
 unfoldable pub hostCaptured : World → Candidate → ℕ → World
 hostCaptured w candidate mcda =
     world (hostTaken (w .own) (trimOf (w .own .caps) mcda (candidate .last)) (candidate .reason))
-    (keptIn (w .host) candidate (lastOf (topOf (w .own .caps) mcda) (candidate .last)))
+    (keptIn (w .host) (candidate .bytes) (lastOf (topOf (w .own .caps) mcda) (candidate .last)))
     (w .controller)
 
 -- a capture on 08h, which has no MCDA
 unfoldable pub controllerCaptured : World → Candidate → World
 controllerCaptured w candidate =
     world (controllerTaken (w .own) (trimOf (w .own .caps) 0 (candidate .last)) (candidate .reason)) (w .host)
-    (keptIn (w .controller) candidate (lastOf (topOf (w .own .caps) 0) (candidate .last)))
+    (keptIn (w .controller) (candidate .bytes) (lastOf (topOf (w .own .caps) 0) (candidate .last)))
 
 -- ---- a command
 

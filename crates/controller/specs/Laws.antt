@@ -22,8 +22,9 @@ use Rattle.records.specs.Records.{agreesWith}
 use Rattle.records.specs.Back.{StoreFits, Typed, agreed, agrees-where, agreed-typed}
 use Rattle.verdicts.specs.Verdicts.{commandAnswer, captureAnswer}
 use Rattle.verdicts.specs.Accepted.{Whole, Accepted, accepted, Captures, captures}
+use Rattle.captures.specs.Captures.{clearedOf}
 use Rattle.controller.specs.Steps.{create-host, host-stays, captured, no-capture}
-use Rattle.controller.specs.Controller.{World, world, Candidate, clearedOf, hostCaptured, controllerCaptured, outcome, Outcome, classFor, lentBy, before, sentOf, afterwards, answered, commandOf, captureAnswered, captureOf}
+use Rattle.controller.specs.Controller.{World, world, Candidate, hostCaptured, controllerCaptured, outcome, Outcome, classFor, lentBy, before, sentOf, afterwards, answered, commandOf, captureAnswered, captureOf}
 
 -- what the words say, and the answer to that
 abbrev pub asked : World → Words → Command

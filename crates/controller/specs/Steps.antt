@@ -10,7 +10,7 @@ use lib.Dec.{eqb}
 use borrow.Author.Tests.{eqb-true, ne-eqb}
 use Rattle.choices.specs.Choice.{pick}
 use Rattle.choices.specs.Tests.{by-test, and-left}
-use Rattle.copies.specs.Parts.{zeros, putAt, put-length, put-whole}
+use Rattle.copies.specs.Parts.{zeros, put-length, put-whole}
 use Rattle.answers.specs.Answers.{success}
 use Rattle.pages.specs.Pages.{hostPage, controllerPage, telemetryPage, block, lastOf, topOf, trimOf, perPage}
 use Rattle.pages.specs.Trimmed.{trim-blocks}
@@ -24,9 +24,10 @@ use Rattle.records.specs.Records.{agreesWith, hostFields, controllerFields, fie
 use Rattle.records.specs.Back.{agreed}
 use Rattle.serving.specs.Serving.{servedInto, served-fits}
 use Rattle.verdicts.specs.Verdicts.{commandAnswer, captureAnswer}
-use Rattle.verdicts.specs.Accepted.{Whole, Accepted, accepted, captures, kept-lent}
+use Rattle.verdicts.specs.Accepted.{Whole, Accepted, accepted, captures}
+use Rattle.captures.specs.Captures.{keptIn, reasonOf, controllerTaken, clearedOf}
 use Rattle.controller.specs.declared.Answered.{Answered}
-use Rattle.controller.specs.Controller.{World, world, Candidate, storeFor, pageOf, controllerTaken, clearedOf, recordMade, storeMade, hostCaptured, controllerCaptured, outcome, Outcome, classFor, lentBy, before, sentOf, afterwards, answered, commandOf, captureAnswered, captureOf}
+use Rattle.controller.specs.Controller.{World, world, Candidate, storeFor, pageOf, recordMade, storeMade, hostCaptured, controllerCaptured, outcome, Outcome, classFor, lentBy, before, sentOf, afterwards, answered, commandOf, captureAnswered, captureOf}
 
 -- ---- what the words say of create
 
@@ -113,7 +114,7 @@ agreed-fits w g page p =
     let b = k .controller .fits .room in
     by-page (λ (n : ℕ). Fits n w) page p (omega arith) (omega arith)
 
-reason-whole : (reason rs : List ℕ) → length reason ≡ 128 → rs ≡ putAt (zeros 128) 0 reason → rs ≡ reason
+reason-whole : (reason rs : List ℕ) → length reason ≡ 128 → rs ≡ reasonOf reason → rs ≡ reason
 reason-whole reason rs l e = e ∙ put-whole (zeros 128) reason (sym l)
 
 -- what a create leaves is the world before the transfer
@@ -153,13 +154,6 @@ served-is w candidate c buf x y {next = next} {after = after} {h = h} {b = b} z 
     (ew ∙ ap (λ (u : World). afterwards u c) ev)
     (sent-is v c (c .page) buf b refl fits (g .room) eb ∙ ap (λ (u : World). sentOf u c buf) ev)
 
--- the candidate's bytes that a create keeps were lent
-pub create-lent : (w : World) (candidate : Candidate) (c : Command) (buf : List ℕ)
-    → Accepted (w .own) c (candidate .last) (lentBy w candidate buf) → c .create ≡ true
-    → 512 * lastOf (topOf (w .own .caps) (c .mcda)) (candidate .last) ≤ length (candidate .bytes)
-create-lent w candidate c buf g t =
-    (kept-lent (topOf (w .own .caps) (c .mcda)) (candidate .last) (length (candidate .bytes)) (length (candidate .reason)) (length (w .host)) (g .candidate t))
-
 -- ---- the paths of a capture on 08h
 
 pub capture-refused-is : (w : World) (candidate : Candidate) (x : ℕ) (y : Answered) → x ≡ captureAnswer (w .own) (candidate .last) (lentBy w candidate [])
@@ -168,21 +162,14 @@ pub capture-refused-is : (w : World) (candidate : Candidate) (x : ℕ) (y : Answ
 unfolding captureOf captureAnswered
 capture-refused-is w candidate x y e n f = rw (f, ← e, ne-eqb x success n)
 
-pub capture-lent : (w : World) (candidate : Candidate) (x : ℕ) {m kept : ℕ} → x ≡ captureAnswer (w .own) (candidate .last) (lentBy w candidate [])
-    → x ≡ success → m ≡ topOf (w .own .caps) 0 → kept ≡ lastOf m (candidate .last) → 512 * kept ≤ length (candidate .bytes)
-capture-lent w candidate x e z em ek =
-    let g = captures (w .own) (candidate .last) (lentBy w candidate []) (sym e ∙ z) in
-    rw (ek, em)
-    (kept-lent (topOf (w .own .caps) 0) (candidate .last) (length (candidate .bytes)) (length (candidate .reason)) (length (w .controller)) (g .candidate))
-
-pub captured-is : (w : World) (candidate : Candidate) (x : ℕ) (y : Answered) {m kept : ℕ} {last rs k : List ℕ} {next : Record}
+pub captured-is : (w : World) (candidate : Candidate) (x : ℕ) (y : Answered) {k : List ℕ} {next : Record}
     → x ≡ captureAnswer (w .own) (candidate .last) (lentBy w candidate []) → x ≡ success
-    → m ≡ topOf (w .own .caps) 0 → kept ≡ lastOf m (candidate .last) → k ≡ putAt (w .controller) 0 (take (512 * kept) (candidate .bytes))
-    → last ≡ trimOf (w .own .caps) 0 (candidate .last) → rs ≡ putAt (zeros 128) 0 (candidate .reason) → next ≡ controllerTaken (w .own) last rs
+    → (next ≡ controllerTaken (w .own) (trimOf (w .own .caps) 0 (candidate .last)) (reasonOf (candidate .reason)))
+    × (k ≡ keptIn (w .controller) (candidate .bytes) (lastOf (topOf (w .own .caps) 0) (candidate .last)))
     → y ≡ record { answer = x; class = 0; own = next }
     → outcome (y .answer) (y .class) (world (y .own) (w .host) k) [] ≡ captureOf w candidate
 unfolding captureOf captureAnswered controllerCaptured
-captured-is w candidate x y e z em ek eh el er en ey =
+captured-is w candidate x y e z en ey =
     let g = captures (w .own) (candidate .last) (lentBy w candidate []) (sym e ∙ z) in
-    let es = reason-whole (candidate .reason) _ (g .candidate .long) er in
-    rw (ey, en, eh, ek, em, el, es, ← e, z)
+    let es = reason-whole (candidate .reason) _ (g .candidate .long) refl in
+    rw (ey, en .0, en .1, es, ← e, z)

@@ -23,7 +23,8 @@ use Rattle.plans.specs.declared.Plan.{Plan}
 use Rattle.plans.specs.Plans.{setupAnswer, areaBytes}
 use Rattle.completions.specs.Completions.{showsNone}
 use Rattle.choices.specs.Tests.{same-or-not}
-use Rattle.controller.specs.Controller.{World, world, Candidate, Outcome, storeFor, clearedOf, hostCaptured, controllerCaptured, before, afterwards, captureOf, captureAnswered, lentBy}
+use Rattle.captures.specs.Captures.{clearedOf}
+use Rattle.controller.specs.Controller.{World, world, Candidate, Outcome, storeFor, hostCaptured, controllerCaptured, before, afterwards, captureOf, captureAnswered, lentBy}
 use Rattle.controller.specs.Steps.{create-host, host-stays, captured, no-capture}
 use Rattle.controller.specs.Laws.{asked, verdict, command-done, command-refused, command-agrees, command-typed, captured-agrees, captured-typed}
 use Rattle.demand3.specs.Bench.{Event, Sent, Taken, actOf, one, capturesOf}

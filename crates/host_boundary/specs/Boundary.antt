@@ -11,12 +11,12 @@ use Rattle.answers.specs.Answers.{badSetup}
 use Rattle.words.specs.declared.Words.{Words}
 use Rattle.plans.specs.declared.Plan.{Plan}
 use Rattle.collection.specs.declared.Collection.{Collection}
-use Rattle.collection.specs.declared.Next.{Next}
-use Rattle.collection.specs.declared.Next.the-variants.{Send, End as Ends, Refuse}
+use Rattle.collection.specs.declared.Next.the-variants.{Refuse}
 use Rattle.collection.specs.declared.Stepped.{Stepped}
 use Rattle.collection.specs.Collection.{stepOf, copyAfter}
 use Rattle.shared_layouts.specs.Layouts.{capsOf}
-use Rattle.state_layout.specs.Layout.{stateBytes, stateAt, stateIntact, send, ending, refusal, nextBytes}
+use Rattle.state_layout.specs.Layout.{stateBytes, stateAt, stateIntact}
+use Rattle.next_layout.specs.Layout.{refusal, kindOf, nextBytes}
 
 -- a byte as a flag: 0 is no and anything else is yes
 abbrev pub flagOf : ℕ → Bool
@@ -25,12 +25,6 @@ flagOf b = not (eqb b 0)
 -- five words as an array
 abbrev pub wordsList : Words → List ℕ
 wordsList w = w .cdw10 ∷ w .cdw11 ∷ w .cdw12 ∷ w .cdw13 ∷ w .cdw14 ∷ []
-
--- what follows: a command to send, an ending or a refusal
-abbrev pub kindOf : Next → ℕ
-kindOf (Send w) = send
-kindOf (Ends e) = ending
-kindOf (Refuse answer) = refusal
 
 -- what setup is asked for
 abbrev pub planOf : ℕ → ℕ → ℕ → ℕ → ℕ → ℕ → ℕ → Plan

@@ -21,9 +21,10 @@ use Rattle.collection.specs.declared.Stepped.{Stepped}
 use Rattle.collection.specs.Collection.{refusalOf, lookOf, moveOf, stepOf}
 use Rattle.collection.specs.Steps.{makes, refused-copy, taken-step}
 use Rattle.shared_layouts.specs.Layouts.{mostCaps, capsOf}
-use Rattle.state_layout.specs.Layout.{stateAt, stateIntact, refusal}
+use Rattle.state_layout.specs.Layout.{stateAt, stateIntact}
+use Rattle.next_layout.specs.Layout.{refusal, kindOf}
 use Rattle.state_layout.specs.Back.{state-intact}
-use Rattle.host_boundary.specs.Boundary.{kindOf, planOf, stepAt}
+use Rattle.host_boundary.specs.Boundary.{planOf, stepAt}
 
 -- what a completion calls for is no refusal
 act-kind : (s : Collection) (h : Seen) (m : Move) → kindOf (makes s h m .next) ≡ refusal → ⊥

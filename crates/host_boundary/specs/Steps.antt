@@ -15,8 +15,9 @@ use Rattle.collection.specs.declared.Next.the-variants.{Refuse}
 use Rattle.collection.specs.declared.Stepped.{Stepped}
 use Rattle.collection.specs.Collection.{stepOf, copyAfter}
 use Rattle.shared_layouts.specs.Layouts.{fieldsBytes}
-use Rattle.state_layout.specs.Layout.{stateBytes, stateAt, stateIntact, refusal, nextBytes}
-use Rattle.host_boundary.specs.Boundary.{wordsList, kindOf, stepAnswer, stateAfter, stepAt}
+use Rattle.state_layout.specs.Layout.{stateBytes, stateAt, stateIntact}
+use Rattle.next_layout.specs.Layout.{refusal, kindOf, nextBytes}
+use Rattle.host_boundary.specs.Boundary.{wordsList, stepAnswer, stateAfter, stepAt}
 
 pub check-is : {x y : Checked} {n : ℕ} {w : List ℕ} → x ≡ y → w ≡ fieldsBytes (x .fields) → n ≡ answerOf (x .fault)
     → (n ≡ answerOf (y .fault)) × (w ≡ fieldsBytes (y .fields))

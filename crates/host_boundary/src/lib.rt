@@ -1,6 +1,6 @@
 // The host's functions of include/bumbazeel.h: thin, over what the bytes that C lends say.
 //
-// It rests on shared_layouts and state_layout for the structs, and on header, words and collection for the work. It promises each
+// It rests on shared_layouts, state_layout and next_layout for the structs, and on header, words and collection for the work. It promises each
 // function's answer and every lent byte afterwards, for all arguments, as an equation with the definitions that those crates' contracts
 // cite (specs/Boundary.antt). A damaged state is refused, and what is refused changes nothing (specs/Laws.antt). A struct of the header
 // file is an array of its bytes here, and a pointer with a length is a slice. No copy or data is moved but by the call that serves it.
@@ -13,23 +13,14 @@ ghost use Rattle.words.specs.Words.{builtOf};
 ghost use Rattle.header.specs.Header.{answerOf, checkOf};
 ghost use Rattle.collection.specs.Collection.{setupOf};
 ghost use Rattle.shared_layouts.specs.Layouts.{fieldsBytes};
-ghost use Rattle.state_layout.specs.Layout.{stateBytes, nextBytes};
-ghost use Rattle.host_boundary.specs.Boundary.{flagOf, wordsList, kindOf, planOf, stateAfter, stepAnswer, stepAt};
+ghost use Rattle.state_layout.specs.Layout.{stateBytes};
+ghost use Rattle.next_layout.specs.Layout.{kindOf, nextBytes};
+ghost use Rattle.host_boundary.specs.Boundary.{flagOf, wordsList, planOf, stateAfter, stepAnswer, stepAt};
 
 fn words_list(w: Words) -> [u32; 5]
     ensures { λ r. ⌜ r ≡ wordsList w ⌝ }
 {
     [w.cdw10, w.cdw11, w.cdw12, w.cdw13, w.cdw14]
-}
-
-fn kind_of(next: Next) -> u8
-    ensures { λ r. ⌜ r ≡ kindOf next ⌝ }
-{
-    match next {
-        Next::Send(_) => state_layout::SEND,
-        Next::End(_) => state_layout::ENDED,
-        Next::Refuse(_) => state_layout::REFUSED,
-    }
 }
 
 // Checks a header, and writes its fields, or zeros where it is bad.
@@ -101,15 +92,15 @@ pub extern "C" fn bumbazeel_setup(
     let begun = x.state;
     let follows = x.next;
     *state = state_layout::write_state(begun);
-    *next = state_layout::write_next(follows);
-    kind_of(follows)
+    *next = next_layout::write_next(follows);
+    next_layout::kind_of(follows)
 }
 
 // The state's bytes after a step: those of the next state, or as they were where it refuses.
 fn state_after(lent: [u8; 56], kind: u8, after: Collection) -> [u8; 56]
     ensures { λ x. ⌜ x ≡ stateAfter lent kind after ⌝ }
 {
-    if kind == state_layout::REFUSED {
+    if kind == next_layout::REFUSED {
         return lent;
     }
     state_layout::write_state(after)
@@ -131,14 +122,14 @@ pub extern "C" fn bumbazeel_step(
 {
     let lent = *state;
     if !state_layout::state_intact(&lent) {
-        *next = state_layout::write_next(Next::Refuse(answers::BAD_SETUP));
-        return state_layout::REFUSED;
+        *next = next_layout::write_next(Next::Refuse(answers::BAD_SETUP));
+        return next_layout::REFUSED;
     }
     let x = state_layout::read_state(&lent).step(ok != 0, data, copy);
     let after = x.state;
     let follows = x.next;
-    let kind = kind_of(follows);
+    let kind = next_layout::kind_of(follows);
     *state = state_after(lent, kind, after);
-    *next = state_layout::write_next(follows);
+    *next = next_layout::write_next(follows);
     kind
 }

@@ -133,13 +133,6 @@ pub record InOrder (a : List ℕ) : Type 0 where
   pub three-most : getD a 2 0 ≤ most3
   pub four-some : getD a 2 0 ≡ 0 → getD a 3 0 ≡ 0
 
--- what is kept is no more than all
-pub last-most : (m : ℕ) (a : List ℕ) → InOrder a → lastOf m a ≤ getD a 3 0
-last-most m a o =
-    pick-cases (λ (x : ℕ). x ≤ getD a 3 0) (eqb m 1) (λ e. omega arith)
-    (λ e. pick-cases (λ (x : ℕ). x ≤ getD a 3 0) (eqb m 2) (λ f. omega arith)
-    (λ f. pick-cases (λ (x : ℕ). x ≤ getD a 3 0) (eqb m 3) (λ g. omega arith) (λ g. omega arith)))
-
 same-two : (d e : Bool) (x : ℕ) → pick (d && e) (pick d x 0) x ≡ x
 same-two true true x = refl
 same-two true false x = refl

@@ -12,7 +12,7 @@ use Rattle.choices.specs.Choice.{pick}
 use Rattle.choices.specs.Tests.{each, and-left, and-right, or-cases, clash}
 use Rattle.answers.specs.Answers.{success, invalidField, shortBuffer, disagree, brokenCandidate}
 use Rattle.pages.specs.Pages.{telemetryPage, block, most4, lastOf, sizeOf, topOf}
-use Rattle.pages.specs.Trimmed.{InOrder, last-most}
+use Rattle.pages.specs.Trimmed.{InOrder}
 use Rattle.words.specs.declared.Command.{Command}
 use Rattle.records.specs.declared.Record.{Record}
 use Rattle.records.specs.Records.{agreesWith}
@@ -47,10 +47,6 @@ candidate-whole kept a bytes reason store e =
       limit = leb-true _ _ (each _ e 5);
       room = leb-true _ _ (each _ e 6);
     }
-
--- what is kept of a whole candidate is no more than was lent
-pub kept-lent : (m : ℕ) (a : List ℕ) (bytes reason store : ℕ) → Whole (lastOf m a) a bytes reason store → block * lastOf m a ≤ bytes
-kept-lent m a bytes reason store w = let l = last-most m a (w .order) in let b = w .whole in omega arith
 
 passed : (t : Bool) (n m : ℕ) → pick t (suc n) m ≡ 0 → (t ≡ false) × (m ≡ 0)
 passed true n m e = absurd (omega arith)

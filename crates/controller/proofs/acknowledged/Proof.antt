@@ -1,6 +1,5 @@
--- `controller::acknowledged` meets its contract: the choice is the definition's.
+-- `controller::acknowledged` meets its contract: the branch is the definition's choice.
 -- Assumes nothing.
-use mathlib.Core.Path.{_∙_}
 use borrow.Author.Needs.{needs}
 use Rattle.controller.proofs.acknowledged.Statement.{statement}
 use Rattle.controller.proofs.acknowledged.Tie as tie
@@ -8,11 +7,11 @@ use Rattle.controller.proofs.acknowledged.Tie as tie
 cleared-requires : tie.Need-cleared-requires
 cleared-requires c κs = search needs
 
-pick-record-requires : tie.Need-pick-record-requires
-pick-record-requires c κs = search needs
-
 returns : tie.Need-returns
-returns c = c .pick-record .ensures ∙ rw (c .before .cleared .ensures)
+returns c = rw (c .before .if1 .taken) (c .cleared .ensures)
+
+returns-2 : tie.Need-returns-2
+returns-2 c = rw (c .if1 .left)
 
 pub acknowledged-spec : {M : Type 1} → statement M
-acknowledged-spec = tie.close (tie.spec cleared-requires pick-record-requires returns)
+acknowledged-spec = tie.close (tie.spec cleared-requires returns returns-2)

@@ -2,7 +2,7 @@
 -- Assumes nothing.
 use borrow.Author.Needs.{needs}
 use Rattle.controller.specs.Controller.{world, candidateOf}
-use Rattle.controller.specs.Steps.{create-host, command-is, command-accepted, refused-is, served-is, create-lent}
+use Rattle.controller.specs.Steps.{create-host, command-is, command-accepted, refused-is, served-is}
 use Rattle.controller.proofs.command.Statement.{statement}
 use Rattle.controller.proofs.command.Tie as tie
 
@@ -26,15 +26,7 @@ returns c =
     (judged .on-command .result) (c .refused .result) (c .before .if1 .taken) (c .refused .ensures))
 
 created-requires : tie.Need-created-requires
-created-requires c κs =
-    let judged = c .before .before in
-    let read = judged .before in
-    let a = c .before .before .before .before .before .before .before .before .before .before .args in
-    λ t.
-    create-lent (world (a .r) (a .host .now) (a .controller .now)) (candidateOf (a .a) (a .bytes .now) (a .reason .now)) (read .read .result) (a .buf .now)
-    (command-accepted (world (a .r) (a .host .now) (a .controller .now)) (candidateOf (a .a) (a .bytes .now) (a .reason .now)) (a .buf .now)
-    (read .read .result) (judged .on-command .result) (judged .on-command .ensures) (c .before .if1 .left))
-    t
+created-requires c κs = search needs
 
 send-requires : tie.Need-send-requires
 send-requires c κs = search needs

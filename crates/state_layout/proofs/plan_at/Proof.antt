@@ -11,31 +11,23 @@ element-copy-out-read-caps c = search needs
 read-caps-requires : tie.Need-read-caps-requires
 read-caps-requires c κs = search needs
 
-element-copy-out-t5 : tie.Need-element-copy-out-t5
-element-copy-out-t5 c = search needs
+element-copy-out-t7 : tie.Need-element-copy-out-t7
+element-copy-out-t7 c = search needs
 
-element-copy-out-t10 : tie.Need-element-copy-out-t10
-element-copy-out-t10 c = search needs
+element-copy-out-t12 : tie.Need-element-copy-out-t12
+element-copy-out-t12 c = search needs
 
-element-copy-out-t14 : tie.Need-element-copy-out-t14
-element-copy-out-t14 c = search needs
-
-value4-at-requires : tie.Need-value4-at-requires
-value4-at-requires c κs = search needs
-
-value4-at-requires-2 : tie.Need-value4-at-requires-2
-value4-at-requires-2 c κs = search needs
+element-copy-out-t16 : tie.Need-element-copy-out-t16
+element-copy-out-t16 c = search needs
 
 value8-at-requires : tie.Need-value8-at-requires
 value8-at-requires c κs = search needs
 
 returns : tie.Need-returns
 returns c =
-    let back4 = c .before .before .before .before in
-    let back9 = back4 .before .before .before .before .before in
-    let back11 = back9 .before .before in
-    plan-is (back11 .args .b .now) (back9 .read-caps .ensures) (back4 .value4-at .ensures) (c .before .before .value4-at2 .ensures)
-    (c .value8-at .ensures)
+    let back5 = c .before .before .before .before .before in
+    let a = back5 .before .before .args in
+    plan-is (a .b .now) (a .chunk) (a .attempts) (back5 .read-caps .ensures) (c .value8-at .ensures)
 
 pub plan-at-spec : {M : Type 1} → statement M
 plan-at-spec =
@@ -43,10 +35,8 @@ plan-at-spec =
     (tie.spec
     element-copy-out-read-caps
     read-caps-requires
-    element-copy-out-t5
-    element-copy-out-t10
-    element-copy-out-t14
-    value4-at-requires
-    value4-at-requires-2
+    element-copy-out-t7
+    element-copy-out-t12
+    element-copy-out-t16
     value8-at-requires
     returns)

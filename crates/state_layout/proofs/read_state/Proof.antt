@@ -5,26 +5,35 @@ use Rattle.state_layout.specs.Steps.{read-is}
 use Rattle.state_layout.proofs.read_state.Statement.{statement}
 use Rattle.state_layout.proofs.read_state.Tie as tie
 
+last-at-requires : tie.Need-last-at-requires
+last-at-requires c κs = search needs
+
+array-read-plan-at : tie.Need-array-read-plan-at
+array-read-plan-at c = search needs
+
+array-read-plan-at-2 : tie.Need-array-read-plan-at-2
+array-read-plan-at-2 c = search needs
+
 plan-at-requires : tie.Need-plan-at-requires
 plan-at-requires c κs = search needs
 
 element-copy-out-phase-of : tie.Need-element-copy-out-phase-of
 element-copy-out-phase-of c = search needs
 
-value4-at-requires : tie.Need-value4-at-requires
-value4-at-requires c κs = search needs
+array-read-phase-of : tie.Need-array-read-phase-of
+array-read-phase-of c = search needs
 
 phase-of-requires : tie.Need-phase-of-requires
 phase-of-requires c κs = search needs
 
-last-at-requires : tie.Need-last-at-requires
-last-at-requires c κs = search needs
+last-at-requires-2 : tie.Need-last-at-requires-2
+last-at-requires-2 c κs = search needs
 
-value4-at-requires-2 : tie.Need-value4-at-requires-2
-value4-at-requires-2 c κs = search needs
+array-read-t15 : tie.Need-array-read-t15
+array-read-t15 c = search needs
 
-element-copy-out-t8 : tie.Need-element-copy-out-t8
-element-copy-out-t8 c = search needs
+element-copy-out-t18 : tie.Need-element-copy-out-t18
+element-copy-out-t18 c = search needs
 
 value8-at-requires : tie.Need-value8-at-requires
 value8-at-requires c κs = search needs
@@ -35,21 +44,22 @@ returns c =
     let back5 = back3 .before .before in
     let back7 = back5 .before .before in
     let back8 = back7 .before in
-    let back11 = back8 .before .before .before in
-    let back12 = back11 .before in
-    read-is (back12 .args .b .now) (back11 .plan-at .ensures) (back8 .value4-at .ensures) (back7 .phase-of .ensures)
-    (back3 .value4-at2 .ensures) (c .value8-at .ensures) (back5 .last-at .ensures)
+    read-is (back8 .before .before .args .b .now) (back8 .last-at .ensures) (back7 .plan-at .ensures) (back5 .phase-of .ensures) (c .value8-at .ensures)
+    (back3 .last-at2 .ensures)
 
 pub read-state-spec : {M : Type 1} → statement M
 read-state-spec =
     tie.close
     (tie.spec
+    last-at-requires
+    array-read-plan-at
+    array-read-plan-at-2
     plan-at-requires
     element-copy-out-phase-of
-    value4-at-requires
+    array-read-phase-of
     phase-of-requires
-    last-at-requires
-    value4-at-requires-2
-    element-copy-out-t8
+    last-at-requires-2
+    array-read-t15
+    element-copy-out-t18
     value8-at-requires
     returns)

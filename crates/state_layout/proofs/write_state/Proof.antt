@@ -17,32 +17,14 @@ slice-aggregate-put-2 c = search needs
 put-requires : tie.Need-put-requires
 put-requires c κs = search needs
 
-slice-aggregate-put4 : tie.Need-slice-aggregate-put4
-slice-aggregate-put4 c = search needs
-
-put4-requires : tie.Need-put4-requires
-put4-requires c κs = search needs
-
-slice-aggregate-put4-2 : tie.Need-slice-aggregate-put4-2
-slice-aggregate-put4-2 c = search needs
-
-put4-requires-2 : tie.Need-put4-requires-2
-put4-requires-2 c κs = search needs
-
-slice-aggregate-put4-3 : tie.Need-slice-aggregate-put4-3
-slice-aggregate-put4-3 c = search needs
-
-put4-requires-3 : tie.Need-put4-requires-3
-put4-requires-3 c κs = search needs
-
-slice-aggregate-put4-4 : tie.Need-slice-aggregate-put4-4
-slice-aggregate-put4-4 c = search needs
-
 chunk-start-requires : tie.Need-chunk-start-requires
 chunk-start-requires c κs = search needs
 
-put4-requires-4 : tie.Need-put4-requires-4
-put4-requires-4 c κs = search needs
+slice-aggregate-put-last : tie.Need-slice-aggregate-put-last
+slice-aggregate-put-last c = search needs
+
+put-last-requires : tie.Need-put-last-requires
+put-last-requires c κs = search needs
 
 slice-aggregate-put8 : tie.Need-slice-aggregate-put8
 slice-aggregate-put8 c = search needs
@@ -56,27 +38,22 @@ slice-aggregate-put8-2 c = search needs
 put8-requires-2 : tie.Need-put8-requires-2
 put8-requires-2 c κs = search needs
 
-slice-aggregate-put-last : tie.Need-slice-aggregate-put-last
-slice-aggregate-put-last c = search needs
+slice-aggregate-put-last-2 : tie.Need-slice-aggregate-put-last-2
+slice-aggregate-put-last-2 c = search needs
 
-put-last-requires : tie.Need-put-last-requires
-put-last-requires c κs = search needs
+put-last-requires-2 : tie.Need-put-last-requires-2
+put-last-requires-2 c κs = search needs
 
 returns : tie.Need-returns
 returns c =
     let back4 = c .before .before .before .before in
     let back7 = back4 .before .before .before in
     let back10 = back7 .before .before .before in
-    let back11 = back10 .before in
-    let back14 = back11 .before .before .before in
+    let back12 = back10 .before .before in
+    let back14 = back12 .before .before in
     let back17 = back14 .before .before .before in
-    let back20 = back17 .before .before .before in
-    let back23 = back20 .before .before .before in
-    let back26 = back23 .before .before .before in
-    let back30 = back26 .before .before .before .before in
-    state-is (back30 .args .s) (back26 .state-marks .ensures) (back11 .chunk-start .ensures) (back23 .put .ensures)
-    (back20 .put4 .ensures) (back17 .put42 .ensures) (back14 .put43 .ensures) (back10 .put44 .ensures)
-    (back7 .put8 .ensures) (back4 .put82 .ensures) (c .before .put-last .ensures)
+    state-is (back17 .before .before .before .before .args .s) (back17 .state-marks .ensures) (back12 .chunk-start .ensures) (back14 .put .ensures) (back10 .put-last .ensures)
+    (back7 .put8 .ensures) (back4 .put82 .ensures) (c .before .put-last2 .ensures)
 
 pub write-state-spec : {M : Type 1} → statement M
 write-state-spec =
@@ -86,19 +63,13 @@ write-state-spec =
     slice-aggregate-put
     slice-aggregate-put-2
     put-requires
-    slice-aggregate-put4
-    put4-requires
-    slice-aggregate-put4-2
-    put4-requires-2
-    slice-aggregate-put4-3
-    put4-requires-3
-    slice-aggregate-put4-4
     chunk-start-requires
-    put4-requires-4
+    slice-aggregate-put-last
+    put-last-requires
     slice-aggregate-put8
     put8-requires
     slice-aggregate-put8-2
     put8-requires-2
-    slice-aggregate-put-last
-    put-last-requires
+    slice-aggregate-put-last-2
+    put-last-requires-2
     returns)

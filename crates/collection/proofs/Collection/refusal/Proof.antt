@@ -1,41 +1,47 @@
--- `collection::Collection::refusal` meets its contract: the nested choices are the row of refusals.
+-- `collection::Collection::refusal` meets its contract: the tests are the definitions' rows.
 -- Assumes nothing.
 use mathlib.Core.Path.{_∙_}
 use borrow.Author.Needs.{needs}
-use Rattle.collection.specs.Collection.{refusalOf}
+use Rattle.choices.specs.Tests.{holds}
+use Rattle.plans.specs.Plans.{awaitedBy}
+use Rattle.collection.specs.Collection.{refusalOf, validState, completionFits, expectedOf}
 use Rattle.collection.proofs.Collection.refusal.Statement.{statement}
 use Rattle.collection.proofs.Collection.refusal.Tie as tie
+
+due-requires : tie.Need-due-requires
+due-requires c κs = search needs
+
+setup-answer-requires : tie.Need-setup-answer-requires
+setup-answer-requires c κs = search needs
+
+most-count-requires : tie.Need-most-count-requires
+most-count-requires c κs = search needs
+
+pick-usize-requires : tie.Need-pick-usize-requires
+pick-usize-requires c κs = search needs
 
 ended-requires : tie.Need-ended-requires
 ended-requires c κs = search needs
 
-valid-requires : tie.Need-valid-requires
-valid-requires c κs = search needs
-
-completion-fits-requires : tie.Need-completion-fits-requires
-completion-fits-requires c κs = search needs
-
-pick-u8-requires : tie.Need-pick-u8-requires
-pick-u8-requires c κs = search needs
-
-pick-u8-requires-2 : tie.Need-pick-u8-requires-2
-pick-u8-requires-2 c κs = search needs
-
-pick-u8-requires-3 : tie.Need-pick-u8-requires-3
-pick-u8-requires-3 c κs = search needs
+first-refusal-requires : tie.Need-first-refusal-requires
+first-refusal-requires c κs = search needs
 
 returns : tie.Need-returns
-unfolding refusalOf
-returns c = c .pick-u83 .ensures ∙ rw (c .before .pick-u82 .ensures, c .before .before .pick-u8 .ensures, c .before .before .before .completion-fits .ensures, c .before .before .before .before .valid .ensures, c .before .before .before .before .before .ended .ensures)
+unfolding refusalOf validState completionFits expectedOf holds awaitedBy
+returns c =
+    let back6 = c .before .before .before .before .before .before in
+    let back10 = back6 .before .before .before .before in
+    c .first-refusal .ensures
+    ∙ rw (c .before .ended .ensures, c .before .before .pick-usize .ensures, back6 .most-count .ensures, back10 .setup-answer .ensures, back10 .before .due .ensures)
 
 pub refusal-spec : {M : Type 1} → statement M
 refusal-spec =
     tie.close
     (tie.spec
+    due-requires
+    setup-answer-requires
+    most-count-requires
+    pick-usize-requires
     ended-requires
-    valid-requires
-    completion-fits-requires
-    pick-u8-requires
-    pick-u8-requires-2
-    pick-u8-requires-3
+    first-refusal-requires
     returns)

@@ -1,8 +1,8 @@
--- `controller::store_of` meets its contract: each branch is the choice's.
+-- `serving::store_of` meets its contract: each branch is the choice's.
 -- Assumes nothing.
 use borrow.Author.Tests.{eq-eqb, ne-eqb}
-use Rattle.controller.proofs.store_of.Statement.{statement}
-use Rattle.controller.proofs.store_of.Tie as tie
+use Rattle.serving.proofs.store_of.Statement.{statement}
+use Rattle.serving.proofs.store_of.Tie as tie
 
 returns : tie.Need-returns
 returns c = rw (eq-eqb _ _ (c .if1 .taken))

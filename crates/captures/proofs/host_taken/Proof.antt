@@ -1,8 +1,8 @@
--- `controller::host_taken` meets its contract: the generation wraps, and every other field is set.
+-- `captures::host_taken` meets its contract: the generation wraps, and every other field is set.
 -- Assumes nothing.
 use borrow.Author.Needs.{needs}
-use Rattle.controller.proofs.host_taken.Statement.{statement}
-use Rattle.controller.proofs.host_taken.Tie as tie
+use Rattle.captures.proofs.host_taken.Statement.{statement}
+use Rattle.captures.proofs.host_taken.Tie as tie
 
 wrapping-add-u8-requires : tie.Need-wrapping-add-u8-requires
 wrapping-add-u8-requires c κs = search needs

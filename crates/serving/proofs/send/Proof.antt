@@ -1,9 +1,9 @@
--- `controller::send` meets its contract: the page's bytes are served from its header and store.
+-- `serving::send` meets its contract: the page's bytes are served from its header and store.
 -- Assumes nothing.
 use mathlib.Core.Path.{_∙_}
 use borrow.Author.Needs.{needs}
-use Rattle.controller.proofs.send.Statement.{statement}
-use Rattle.controller.proofs.send.Tie as tie
+use Rattle.serving.proofs.send.Statement.{statement}
+use Rattle.serving.proofs.send.Tie as tie
 
 fields-requires : tie.Need-fields-requires
 fields-requires c κs = search needs

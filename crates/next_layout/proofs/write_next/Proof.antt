@@ -1,10 +1,10 @@
--- `state_layout::write_next` meets its contract: the arms are the definition's clauses.
+-- `next_layout::write_next` meets its contract: the arms are the definition's clauses.
 -- Assumes nothing.
 use mathlib.Core.Path.{_∙_}
 use borrow.Author.Needs.{needs}
-use Rattle.state_layout.specs.Layout.{nextBytes}
-use Rattle.state_layout.proofs.write_next.Statement.{statement}
-use Rattle.state_layout.proofs.write_next.Tie as tie
+use Rattle.next_layout.specs.Layout.{nextBytes}
+use Rattle.next_layout.proofs.write_next.Statement.{statement}
+use Rattle.next_layout.proofs.write_next.Tie as tie
 
 enum-known-next : tie.Need-enum-known-next
 enum-known-next c = search needs
