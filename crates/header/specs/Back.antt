@@ -1,6 +1,6 @@
 -- What is written is read back: the check of a header's bytes gives the fields that it was written from. One theorem over both pages.
 -- Assumes nothing.
-use Prim.Native.Nat.{ℕ, _+_, _<_}
+use Prim.Native.Nat.{ℕ, _+_, _*_, _/_, _%_, _<_}
 use mathlib.Core.Path.{_≡_, refl, sym, ap, _∙_}
 use mathlib.Core.List.{List, [], _∷_, _++_}
 use mathlib.Core.Bool.{Bool, true, false}
@@ -11,8 +11,8 @@ use lib.Dec.{eqb}
 use Rattle.choices.specs.Choice.{pick}
 use Rattle.choices.specs.Tests.{each}
 use Rattle.copies.specs.Parts.{zeros, putAt, put-end}
-use Rattle.littleendian.specs.Numbers.{bytesOf, valueAt, reasonAt}
-use Rattle.littleendian.specs.Back.{value-back}
+use Rattle.littleendian.specs.Numbers.{bytesOf, lastBytes, valueAt, reasonAt}
+use Rattle.littleendian.specs.Back.{value-back, first, both, join, low2, low3}
 use Rattle.littleendian.specs.Puts.{then}
 use Rattle.pages.specs.Pages.{hostPage, block, perPage}
 use Rattle.pages.specs.Trimmed.{LastRule, last-rule}
@@ -22,59 +22,103 @@ use Rattle.header.specs.declared.Fault.the-variants.{None, Length}
 use Rattle.header.specs.Header.{numbers, marks, headerOf, lastAt, fieldsOf, fieldsOk, faultless, fieldFault, noFields, checkedBy, checkOf}
 use Rattle.header.specs.Faults.{faultless-none, faultless-fields, fault-short, fault-long}
 
--- bytes 0 to 19, from the bytes of each number
-pub numbers-are : (page oui : ℕ) (last : List ℕ) {o a b c d : List ℕ} → o ≡ bytesOf 3 oui → a ≡ bytesOf 2 (getD last 0 0)
-    → b ≡ bytesOf 2 (getD last 1 0) → c ≡ bytesOf 2 (getD last 2 0) → d ≡ bytesOf 4 (getD last 3 0)
-    → page ∷ 0 ∷ 0 ∷ 0 ∷ 0 ∷ getD o 0 0 ∷ getD o 1 0 ∷ getD o 2 0 ∷ getD a 0 0 ∷ getD a 1 0 ∷ getD b 0 0 ∷ getD b 1 0 ∷ getD c 0 0 ∷ getD c 1 0 ∷ 0 ∷ 0 ∷ getD d 0 0 ∷ getD d 1 0 ∷ getD d 2 0 ∷ getD d 3 0 ∷ []
-    ≡ numbers page oui last
-numbers-are page oui last e f g h i = rw (e, f, g, h, i)
+-- ---- four bytes as one number
 
-front-is : (f : Fields) {o p : List ℕ} → o ≡ putAt (zeros 512) 0 (numbers (f .page) (f .oui) (f .last)) → p ≡ putAt o 380 (marks f)
+-- a number made of a low half and a high half
+half-bytes : (p q : ℕ) → p < 65536 → bytesOf 4 (p + 65536 * q) ≡ bytesOf 2 p ++ bytesOf 2 q
+half-bytes p q h =
+    let e : (p + 65536 * q) / 256 ≡ p / 256 + 256 * q = omega arith in
+    let f : (p / 256 + 256 * q) / 256 ≡ q = omega arith in
+    rw (e, f) (first (omega arith) (first (omega arith) refl))
+
+two-halves : (a b : ℕ) → bytesOf 4 (a % 65536 + 65536 * (b % 65536)) ≡ bytesOf 2 a ++ bytesOf 2 b
+two-halves a b = half-bytes (a % 65536) (b % 65536) (omega arith) ∙ both (low2 a) (low2 b)
+
+low-half : (a : ℕ) → bytesOf 4 (a % 65536) ≡ bytesOf 2 a ++ zeros 2
+low-half a =
+    let e : a % 65536 ≡ a % 65536 + 65536 * 0 = omega arith in
+    ap (λ (x : ℕ). bytesOf 4 x) e ∙ half-bytes (a % 65536) 0 (omega arith) ∙ ap (λ (l : List ℕ). l ++ zeros 2) (low2 a)
+
+-- a number of three bytes above a zero byte
+three-above : (a : ℕ) → bytesOf 4 (256 * (a % 16777216)) ≡ 0 ∷ bytesOf 3 a
+three-above a =
+    let e : 256 * (a % 16777216) / 256 ≡ a % 16777216 = omega arith in
+    first (omega arith) (ap (λ (x : ℕ). bytesOf 3 x) e ∙ low3 a)
+
+-- bytes 0 to 19, the last sixteen from four numbers of four bytes
+pub words-are : (oui : ℕ) (last : List ℕ) (page : ℕ)
+    → (page ∷ zeros 3) ++ lastBytes (256 * (oui % 16777216) ∷ (getD last 0 0 % 65536 + 65536 * (getD last 1 0 % 65536)) ∷ getD last 2 0 % 65536 ∷ getD last 3 0 ∷ [])
+    ≡ numbers page oui last
+words-are oui last page =
+    ap (λ (l : List ℕ). (page ∷ zeros 3) ++ l)
+    (join (three-above oui) (two-halves (getD last 0 0) (getD last 1 0)) (low-half (getD last 2 0)) refl)
+
+front-is : (f : Fields) (w : List ℕ) {o p : List ℕ} → ((page : ℕ) → (page ∷ zeros 3) ++ lastBytes w ≡ numbers page (f .oui) (f .last))
+    → o ≡ putAt (f .page ∷ zeros 511) 4 (lastBytes w) → p ≡ putAt o 380 (marks f)
     → p ≡ numbers (f .page) (f .oui) (f .last) ++ zeros 360 ++ marks f ++ zeros 128
 unfolding putAt
-front-is f e1 e2 = then 380 (marks f) e1 e2
+front-is f w n e1 e2 = then 380 (marks f) e1 e2 ∙ ap (λ (l : List ℕ). l ++ zeros 360 ++ marks f ++ zeros 128) (n (f .page))
 
 -- the puts that write a header follow one another, and the reason ends where the header ends
-pub write-is : (f : Fields) {n m o p r : List ℕ} → length (f .reason) ≡ 128 → n ≡ numbers (f .page) (f .oui) (f .last) → m ≡ marks f
-    → o ≡ putAt (zeros 512) 0 n → p ≡ putAt o 380 m → r ≡ putAt p 384 (f .reason)
+pub write-is : (f : Fields) (w : List ℕ) {m o p r : List ℕ} → length (f .reason) ≡ 128
+    → ((page : ℕ) → (page ∷ zeros 3) ++ lastBytes w ≡ numbers page (f .oui) (f .last)) → m ≡ marks f
+    → o ≡ putAt (f .page ∷ zeros 511) 4 (lastBytes w) → p ≡ putAt o 380 m → r ≡ putAt p 384 (f .reason)
     → r ≡ headerOf f
 unfolding headerOf
-write-is f {o = o} l en em e1 e2 e3 =
+write-is f w {o = o} l n em e1 e2 e3 =
     let front : List ℕ = numbers (f .page) (f .oui) (f .last) ++ zeros 360 ++ marks f in
     e3
-    ∙ ap (λ (x : List ℕ). putAt x 384 (f .reason))
-    (front-is f (e1 ∙ ap (λ (x : List ℕ). putAt (zeros 512) 0 x) en) (e2 ∙ ap (λ (x : List ℕ). putAt o 380 x) em))
+    ∙ ap (λ (x : List ℕ). putAt x 384 (f .reason)) (front-is f w n e1 (e2 ∙ ap (λ (x : List ℕ). putAt o 380 x) em))
     ∙ put-end (front ++ zeros 128) (f .reason) 384 (omega arith)
 
--- the fields, from what each call reads
-pub fields-are : (page : ℕ) (h : List ℕ) {oui scope generation : ℕ} {last reason : List ℕ} → oui ≡ valueAt 3 5 h → last ≡ lastAt h
+-- what stands in the parts of a number of four bytes
+above-byte : (a b c d : ℕ) → a < 256 → (a + 256 * (b + 256 * (c + 256 * d))) / 256 ≡ b + 256 * (c + 256 * d)
+above-byte a b c d h = omega arith
+
+low-part : (a b c d : ℕ) → a < 256 → b < 256 → (a + 256 * (b + 256 * (c + 256 * d))) % 65536 ≡ a + 256 * b
+low-part a b c d h k = omega arith
+
+high-part : (a b c d : ℕ) → a < 256 → b < 256 → (a + 256 * (b + 256 * (c + 256 * d))) / 65536 ≡ c + 256 * d
+high-part a b c d h k = omega arith
+
+-- the fields, from what each call reads of bytes
+pub fields-are : (page : ℕ) (h : List ℕ) → ((i : ℕ) → getD h i 0 < 256) → {o w v u scope generation : ℕ} {reason : List ℕ}
+    → o ≡ valueAt 4 4 h → w ≡ valueAt 4 8 h → v ≡ valueAt 4 12 h → u ≡ valueAt 4 16 h
     → reason ≡ reasonAt 384 h → scope ≡ perPage page (getD h 380 0) (getD h 381 0)
     → generation ≡ perPage page (getD h 381 0) 0
-    → record { page = getD h 0 0; oui = oui; last = last; scope = scope; hostgeneration = generation; tcda = getD h 382 0; controllergeneration = getD h 383 0; reason = reason }
+    → record { page = getD h 0 0; oui = o / 256; last = w % 65536 ∷ w / 65536 ∷ v % 65536 ∷ u ∷ []; scope = scope; hostgeneration = generation; tcda = getD h 382 0; controllergeneration = getD h 383 0; reason = reason }
     ≡ fieldsOf page h
-fields-are page h o l r s g = rw (o, l, r, s, g)
+fields-are page h t o w v u r s g =
+    let oui = above-byte (getD h 4 0) (getD h 5 0) (getD h 6 0) (getD h 7 0) (t 4) in
+    let area1 = low-part (getD h 8 0) (getD h 9 0) (getD h 10 0) (getD h 11 0) (t 8) (t 9) in
+    let area2 = high-part (getD h 8 0) (getD h 9 0) (getD h 10 0) (getD h 11 0) (t 8) (t 9) in
+    let area3 = low-part (getD h 12 0) (getD h 13 0) (getD h 14 0) (getD h 15 0) (t 12) (t 13) in
+    rw (o, w, v, u, r, s, g, oui, area1, area2, area3)
 
--- what a check answers where the fault is known to be none, or one
-pub checked-good : (x : Fault) (f : Fields) {t : Bool} → t ≡ faultless x → t ≡ true → record { fault = x; fields = f } ≡ checkedBy x f
-checked-good x f e t = rw (sym e ∙ t)
-
-pub checked-bad : (x : Fault) (f : Fields) {t : Bool} {none : Fields} → t ≡ faultless x → t ≡ false → none ≡ noFields
-    → record { fault = x; fields = none } ≡ checkedBy x f
-checked-bad x f e t n = rw (sym e ∙ t, n)
-
--- what the check is where its length is known
-pub check-short : (page : ℕ) (da4s : Bool) (h : List ℕ) {none : Fields} → (length h ≡ block → ⊥) → none ≡ noFields
-    → record { fault = Length; fields = none } ≡ checkOf page da4s h
+-- what a check answers of a header of another length, of one at fault, and of a good one
+pub check-short : (page : ℕ) (da4s : Bool) (h : List ℕ) → (length h ≡ block → ⊥) → record { fault = Length; fields = noFields } ≡ checkOf page da4s h
 unfolding checkOf
-check-short page da4s h l n = rw (← fault-short page da4s h l, n)
+check-short page da4s h l = rw (← fault-short page da4s h l)
 
-pub check-long : (page : ℕ) (da4s : Bool) (h : List ℕ) (f : Fields) (x : Fault)
+check-long : (page : ℕ) (da4s : Bool) (h : List ℕ) (f : Fields) (x : Fault)
     → length h ≡ block → f ≡ fieldsOf page h → x ≡ fieldFault page da4s f → checkedBy x f ≡ checkOf page da4s h
 unfolding checkOf
 check-long page da4s h f x l e q =
     ap (λ (y : Fault). checkedBy y f) q
     ∙ ap (λ (g : Fields). checkedBy (fieldFault page da4s g) g) e
     ∙ ap (λ (y : Fault). checkedBy y (fieldsOf page h)) (fault-long page da4s h l)
+
+pub check-bad : (page : ℕ) (da4s : Bool) (h : List ℕ) (f : Fields) (x : Fault) {t : Bool}
+    → length h ≡ block → f ≡ fieldsOf page h → x ≡ fieldFault page da4s f → t ≡ faultless x → t ≡ false
+    → record { fault = x; fields = noFields } ≡ checkOf page da4s h
+check-bad page da4s h f x l e q k b =
+    let n : record { fault = x; fields = noFields } ≡ checkedBy x f = rw (sym k ∙ b) in n ∙ check-long page da4s h f x l e q
+
+pub check-good : (page : ℕ) (da4s : Bool) (h : List ℕ) (f : Fields) (x : Fault) {t : Bool}
+    → length h ≡ block → f ≡ fieldsOf page h → x ≡ fieldFault page da4s f → t ≡ faultless x → t ≡ true
+    → record { fault = x; fields = f } ≡ checkOf page da4s h
+check-good page da4s h f x l e q k b =
+    let n : record { fault = x; fields = f } ≡ checkedBy x f = rw (sym k ∙ b) in n ∙ check-long page da4s h f x l e q
 
 -- fields that a header can carry: arrays of the lengths that their types say, an OUI of three bytes, and no host generation on 08h
 pub record Carried (f : Fields) : Type 0 where

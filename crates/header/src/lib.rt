@@ -3,11 +3,15 @@
 // It rests on choices, copies, littleendian, answers and pages. It promises that the bytes written, the fields read and the fault found are those of
 // specs/Header.antt, that the fault is the first of its order (specs/Faults.antt), and that a header written from fields that are good is
 // checked to exactly those fields (specs/Back.antt).
+ghost use Prim.Native.Nat.{ℕ};
 ghost use mathlib.Core.Path.{_≡_};
+ghost use mathlib.Core.List.{_∷_, _++_};
 ghost use lib.ListN.{length};
 ghost use Rattle.choices.specs.Choice.{firstThat};
+ghost use Rattle.copies.specs.Parts.{zeros};
+ghost use Rattle.littleendian.specs.Numbers.{lastBytes};
 ghost use Rattle.header.specs.declared.Fault.the-variants.{None};
-ghost use Rattle.header.specs.Header.{numbers, marks, headerOf, lastAt, fieldsOf, faultless, answerOf, faultOrder, fieldFault, noFields, checkedBy, checkOf};
+ghost use Rattle.header.specs.Header.{numbers, marks, headerOf, fieldsOf, faultless, answerOf, faultOrder, fieldFault, noFields, checkOf};
 
 // What a header says. `hostgeneration` is the host generation, which an 08h header does not have: 0 there. `controllergeneration` is the controller
 // generation.
@@ -60,36 +64,19 @@ fn marks_of(f: Fields) -> [u8; 4]
     [first, second, f.tcda, f.controllergeneration]
 }
 
-// Bytes 0 to 19.
-fn numbers_of(page: u8, oui: u32, last: [u32; 4]) -> [u8; 20]
-    ensures { λ r. ⌜ r ≡ numbers page oui last ⌝ }
+// Bytes 4 to 19 as four numbers of four bytes each: a zero byte and the OUI; the last blocks of areas 1 and 2; that of area 3 and two zero
+// bytes; that of area 4.
+fn words_of(oui: u32, last: [u32; 4]) -> [u32; 4]
+    ensures { λ r. ⌜ ((page : ℕ) → (page ∷ zeros 3) ++ lastBytes r ≡ numbers page oui last) ⌝ }
 {
-    let o = littleendian::bytes3(oui);
-    let a1 = littleendian::bytes2(last[0]);
-    let a2 = littleendian::bytes2(last[1]);
-    let a3 = littleendian::bytes2(last[2]);
-    let a4 = littleendian::bytes4(last[3]);
+    let area1 = last[0] % 65536;
+    let area2 = last[1] % 65536;
+    let area3 = last[2] % 65536;
     [
-        page,
-        0,
-        0,
-        0,
-        0,
-        o[0],
-        o[1],
-        o[2],
-        a1[0],
-        a1[1],
-        a2[0],
-        a2[1],
-        a3[0],
-        a3[1],
-        0,
-        0,
-        a4[0],
-        a4[1],
-        a4[2],
-        a4[3],
+        256 * (oui % 16777216),
+        area1 + 65536 * area2,
+        area3,
+        last[3],
     ]
 }
 
@@ -100,36 +87,32 @@ pub fn write(f: Fields) -> [u8; 512]
     let last = f.last;
     let reason = f.reason;
     let mut out = [0u8; 512];
-    copies::put(&numbers_of(f.page, f.oui, last), &mut out, 0);
+    out[0] = f.page;
+    littleendian::put_last(&mut out, 4, words_of(f.oui, last));
     copies::put(&marks_of(f), &mut out, 380);
     littleendian::put_reason(&mut out, 384, reason);
     out
 }
 
-fn last_at(h: &[u8]) -> [u32; 4]
-    requires { ⌜ length (now h) ≡ 512 ⌝ }
-    ensures { λ r. ⌜ r ≡ lastAt (now (h .entry)) ⌝ }
-{
-    let a1 = littleendian::value2_at(h, 8);
-    let a2 = littleendian::value2_at(h, 10);
-    let a3 = littleendian::value2_at(h, 12);
-    let a4 = littleendian::value4_at(h, 16);
-    [a1, a2, a3, a4]
-}
-
+// The fields in a header's bytes, asked for as this page. Its numbers of two and three bytes are parts of numbers of four.
 fn fields_of(page: u8, h: &[u8]) -> Fields
     requires { ⌜ length (now h) ≡ 512 ⌝ }
     ensures { λ r. ⌜ r ≡ fieldsOf page (now (h .entry)) ⌝ }
 {
     let host = page == pages::HOST;
-    let last = last_at(h);
+    let second = h[381];
+    let oui = littleendian::value4_at(h, 4) / 256;
+    let areas12 = littleendian::value4_at(h, 8);
+    let area3 = littleendian::value4_at(h, 12) % 65536;
+    let area4 = littleendian::value4_at(h, 16);
+    let last = [areas12 % 65536, areas12 / 65536, area3, area4];
     let reason = littleendian::reason_at(h, 384);
     Fields {
         page: h[0],
-        oui: littleendian::value3_at(h, 5),
+        oui,
         last,
-        scope: choices::pick_u8(host, h[380], h[381]),
-        hostgeneration: choices::pick_u8(host, h[381], 0),
+        scope: choices::pick_u8(host, h[380], second),
+        hostgeneration: choices::pick_u8(host, second, 0),
         tcda: h[382],
         controllergeneration: h[383],
         reason,
@@ -212,10 +195,11 @@ pub fn answer_of(x: Fault) -> u8
     choices::pick_u8(faultless(x), answers::SUCCESS, answers::BAD_HEADER)
 }
 
-fn no_fields() -> Fields
-    ensures { λ r. ⌜ r ≡ noFields ⌝ }
+// What a check answers of a header at fault: zeros in place of the fields.
+fn refused(x: Fault) -> Checked
+    ensures { λ r. ⌜ r ≡ record { fault = x; fields = noFields } ⌝ }
 {
-    Fields {
+    let fields = Fields {
         page: 0,
         oui: 0,
         last: [0; 4],
@@ -224,23 +208,8 @@ fn no_fields() -> Fields
         tcda: 0,
         controllergeneration: 0,
         reason: [0; 128],
-    }
-}
-
-fn judged(x: Fault, f: Fields) -> Checked
-    ensures { λ r. ⌜ r ≡ checkedBy x f ⌝ }
-{
-    if faultless(x) {
-        return Checked {
-            fault: x,
-            fields: f,
-        };
-    }
-    let none = no_fields();
-    Checked {
-        fault: x,
-        fields: none,
-    }
+    };
+    Checked { fault: x, fields }
 }
 
 // The fields of a header of the page asked for, under a DA4S, or what is at fault in it.
@@ -248,12 +217,15 @@ pub fn check(page: u8, da4s: bool, h: &[u8]) -> Checked
     ensures { λ r. ⌜ r ≡ checkOf page da4s (now (h .entry)) ⌝ }
 {
     if h.len() != pages::BLOCK {
-        let none = no_fields();
-        return Checked {
-            fault: Fault::Length,
-            fields: none,
-        };
+        return refused(Fault::Length);
     }
     let f = fields_of(page, h);
-    judged(fault_of(page, da4s, f), f)
+    let x = fault_of(page, da4s, f);
+    if faultless(x) {
+        return Checked {
+            fault: x,
+            fields: f,
+        };
+    }
+    refused(x)
 }

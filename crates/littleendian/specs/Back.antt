@@ -45,6 +45,30 @@ pub eight : {a b c d e f g h p q r s t u v w : ℕ} → a ≡ p → b ≡ q → 
     → a ∷ b ∷ c ∷ d ∷ e ∷ f ∷ g ∷ h ∷ [] ≡ p ∷ q ∷ r ∷ s ∷ t ∷ u ∷ v ∷ w ∷ []
 eight e1 e2 e3 e4 e5 e6 e7 e8 = cc
 
+-- a first number and a rest
+pub first : {a b : ℕ} {l m : List ℕ} → a ≡ b → l ≡ m → a ∷ l ≡ b ∷ m
+first e f = rw (e, f)
+
+-- the low bytes of a number are those of what is left of it
+pub low2 : (x : ℕ) → bytesOf 2 (x % 65536) ≡ bytesOf 2 x
+low2 x = first (omega arith) (ap (λ (y : ℕ). y ∷ []) (omega arith))
+
+pub low3 : (x : ℕ) → bytesOf 3 (x % 16777216) ≡ bytesOf 3 x
+low3 x =
+    let e : x % 16777216 / 256 ≡ x / 256 % 65536 = omega arith in
+    first (omega arith) (ap (λ (y : ℕ). bytesOf 2 y) e ∙ low2 (x / 256))
+
+pub low4 : (x : ℕ) → bytesOf 4 (x % 4294967296) ≡ bytesOf 4 x
+low4 x =
+    let e : x % 4294967296 / 256 ≡ x / 256 % 16777216 = omega arith in
+    first (omega arith) (ap (λ (y : ℕ). bytesOf 3 y) e ∙ low3 (x / 256))
+
+-- a number of eight bytes is its two halves
+pub halves : (y : ℕ) → bytesOf 4 (y % 4294967296) ++ bytesOf 4 (y / 4294967296) ≡ bytesOf 8 y
+halves y =
+    let e : y / 4294967296 ≡ y / 256 / 256 / 256 / 256 = omega arith in
+    both (low4 y) (ap (λ (z : ℕ). bytesOf 4 z) e)
+
 -- every element is a byte
 pub Bytes : List ℕ → Type 0
 Bytes b = (i : ℕ) → getD b i 0 < 256

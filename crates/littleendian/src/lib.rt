@@ -1,82 +1,40 @@
-// Numbers and arrays as bytes at a place of a slice: little-endian numbers of two, three, four and eight bytes, four last blocks, and a
-// reason.
+// Numbers and arrays as bytes at a place of a slice: little-endian numbers of four and eight bytes, four last blocks, and a reason.
 //
-// It rests on choices and copies. It promises that each is put as, and read from, exactly the bytes of specs/Numbers.antt, and that
+// It rests on copies. It promises that each is put as, and read from, exactly the bytes of specs/Numbers.antt, and that
 // nothing is lost on either way (specs/Back.antt).
 ghost use mathlib.Core.Path.{_≡_};
-ghost use Prim.Native.Nat.{_+_, _*_, _≤_};
+ghost use Prim.Native.Nat.{_+_, _≤_};
+ghost use mathlib.Core.List.{[], _∷_};
 ghost use lib.ListN.{length};
 ghost use Rattle.copies.specs.Parts.{putAt};
-ghost use Rattle.littleendian.specs.Numbers.{bytesOf, valueAt, lastBytes, lastAt, reasonAt};
+ghost use Rattle.littleendian.specs.Numbers.{bytesOf, valueOf, valueAt, lastBytes, lastAt, reasonAt};
 
 // ---- writing
-
-// The two low bytes of a number.
-pub fn bytes2(x: u32) -> [u8; 2]
-    ensures { λ r. ⌜ r ≡ bytesOf 2 x ⌝ }
-{
-    [(x % 256) as u8, (x / 256 % 256) as u8]
-}
-
-// The three low bytes of a number.
-pub fn bytes3(x: u32) -> [u8; 3]
-    ensures { λ r. ⌜ r ≡ bytesOf 3 x ⌝ }
-{
-    let x1 = x / 256;
-    let x2 = x1 / 256;
-    [(x % 256) as u8, (x1 % 256) as u8, (x2 % 256) as u8]
-}
-
-// The four bytes of a number.
-pub fn bytes4(y: u32) -> [u8; 4]
-    ensures { λ r. ⌜ r ≡ bytesOf 4 y ⌝ }
-{
-    let y1 = y / 256;
-    let y2 = y1 / 256;
-    let y3 = y2 / 256;
-    [
-        (y % 256) as u8,
-        (y1 % 256) as u8,
-        (y2 % 256) as u8,
-        (y3 % 256) as u8,
-    ]
-}
-
-// The eight bytes of a number.
-fn bytes8(z: u64) -> [u8; 8]
-    ensures { λ r. ⌜ r ≡ bytesOf 8 z ⌝ }
-{
-    let z1 = z / 256;
-    let z2 = z1 / 256;
-    let z3 = z2 / 256;
-    let z4 = z3 / 256;
-    let z5 = z4 / 256;
-    let z6 = z5 / 256;
-    let z7 = z6 / 256;
-    [
-        (z % 256) as u8,
-        (z1 % 256) as u8,
-        (z2 % 256) as u8,
-        (z3 % 256) as u8,
-        (z4 % 256) as u8,
-        (z5 % 256) as u8,
-        (z6 % 256) as u8,
-        (z7 % 256) as u8,
-    ]
-}
 
 // A number of four bytes goes into `out` from `at` on. Where it does not fit there, `out` stays as it is.
 pub fn put4(out: &mut [u8], at: usize, x: u32)
     ensures { λ _. ⌜ now (out .exit) ≡ putAt (now (out .entry)) at (bytesOf 4 x) ⌝ }
 {
-    copies::put(&bytes4(x), out, at);
+    let x1 = x / 256;
+    let x2 = x1 / 256;
+    let x3 = x2 / 256;
+    let four = [
+        (x % 256) as u8,
+        (x1 % 256) as u8,
+        (x2 % 256) as u8,
+        (x3 % 256) as u8,
+    ];
+    copies::put(&four, out, at);
 }
 
 // A number of eight bytes, in the same way.
-pub fn put8(out: &mut [u8], at: usize, x: u64)
-    ensures { λ _. ⌜ now (out .exit) ≡ putAt (now (out .entry)) at (bytesOf 8 x) ⌝ }
+pub fn put8(out: &mut [u8], at: usize, y: u64)
+    ensures { λ _. ⌜ now (out .exit) ≡ putAt (now (out .entry)) at (bytesOf 8 y) ⌝ }
 {
-    copies::put(&bytes8(x), out, at);
+    let mut halves = [0u8; 8];
+    put4(&mut halves, 0, (y % 4294967296) as u32);
+    put4(&mut halves, 4, (y / 4294967296) as u32);
+    copies::put(&halves, out, at);
 }
 
 // Four last blocks, four bytes each, in the same way.
@@ -100,26 +58,11 @@ pub fn put_reason(out: &mut [u8], at: usize, reason: [u8; 128])
 
 // ---- reading
 
+// The number of four bytes, the lowest first.
 fn of4(a: u8, b: u8, c: u8, d: u8) -> u32
-    ensures { λ r. ⌜ r ≡ a + 256 * (b + 256 * (c + 256 * d)) ⌝ }
+    ensures { λ r. ⌜ r ≡ valueOf (a ∷ b ∷ c ∷ d ∷ []) ⌝ }
 {
     (a as u32) + 256 * ((b as u32) + 256 * ((c as u32) + 256 * (d as u32)))
-}
-
-// The number in the two bytes from `i` on.
-pub fn value2_at(b: &[u8], i: usize) -> u32
-    requires { ⌜ i + 2 ≤ length (now b) ⌝ }
-    ensures { λ r. ⌜ r ≡ valueAt 2 i (now (b .entry)) ⌝ }
-{
-    of4(b[i], b[i + 1], 0, 0)
-}
-
-// The number in the three bytes from `i` on.
-pub fn value3_at(b: &[u8], i: usize) -> u32
-    requires { ⌜ i + 3 ≤ length (now b) ⌝ }
-    ensures { λ r. ⌜ r ≡ valueAt 3 i (now (b .entry)) ⌝ }
-{
-    of4(b[i], b[i + 1], b[i + 2], 0)
 }
 
 // The number in the four bytes from `i` on.

@@ -1,6 +1,7 @@
 -- `header::answer_of` meets its contract: the choice is the definition's.
 -- Assumes nothing.
 use borrow.Author.Needs.{needs}
+use mathlib.Core.Path.{_∙_}
 use Rattle.header.proofs.answer_of.Statement.{statement}
 use Rattle.header.proofs.answer_of.Tie as tie
 
@@ -11,7 +12,7 @@ pick-u8-requires : tie.Need-pick-u8-requires
 pick-u8-requires c κs = search needs
 
 returns : tie.Need-returns
-returns c = cc
+returns c = c .pick-u8 .ensures ∙ rw (c .before .faultless .ensures)
 
 pub answer-of-spec : {M : Type 1} → statement M
 answer-of-spec = tie.close (tie.spec faultless-requires pick-u8-requires returns)

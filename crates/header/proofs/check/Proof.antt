@@ -2,15 +2,17 @@
 -- Assumes nothing.
 use borrow.Author.Needs.{needs}
 use mathlib.Core.Path.{_∙_}
-use Rattle.header.specs.Back.{check-short, check-long}
+use Rattle.header.specs.Back.{check-short, check-good, check-bad}
 use Rattle.header.proofs.check.Statement.{statement}
 use Rattle.header.proofs.check.Tie as tie
 
-no-fields-requires : tie.Need-no-fields-requires
-no-fields-requires c κs = search needs
+refused-requires : tie.Need-refused-requires
+refused-requires c κs = search needs
 
 returns : tie.Need-returns
-returns c = let a = c .before .before .before .args in check-short (a .page) (a .da4s) (a .h .now) (c .before .if1 .taken) (c .no-fields .ensures)
+returns c =
+    let a = c .before .before .before .args in
+    c .refused .ensures ∙ check-short (a .page) (a .da4s) (a .h .now) (c .before .if1 .taken)
 
 fields-of-requires : tie.Need-fields-of-requires
 fields-of-requires c κs = search needs
@@ -18,23 +20,38 @@ fields-of-requires c κs = search needs
 fault-of-requires : tie.Need-fault-of-requires
 fault-of-requires c κs = search needs
 
-judged-requires : tie.Need-judged-requires
-judged-requires c κs = search needs
+faultless-requires : tie.Need-faultless-requires
+faultless-requires c κs = search needs
 
 returns-2 : tie.Need-returns-2
 returns-2 c =
-    let a = c .before .before .before .before .before .args in
-    c .judged .ensures
-    ∙ check-long (a .page) (a .da4s) (a .h .now) (c .before .before .fields-of .result) (c .before .fault-of .result)
-    (c .before .before .before .if1 .left) (c .before .before .fields-of .ensures) (c .before .fault-of .ensures)
+    let back2 = c .before .before in
+    let back4 = back2 .before .before in
+    let a = back4 .before .before .args in
+    check-good (a .page) (a .da4s) (a .h .now) (back2 .before .fields-of .result) (back2 .fault-of .result) (back4 .if1 .left)
+    (back2 .before .fields-of .ensures) (back2 .fault-of .ensures) (c .before .faultless .ensures) (c .if2 .taken)
+
+refused-requires-2 : tie.Need-refused-requires-2
+refused-requires-2 c κs = search needs
+
+returns-3 : tie.Need-returns-3
+returns-3 c =
+    let back3 = c .before .before .before in
+    let back5 = back3 .before .before in
+    let a = back5 .before .before .args in
+    c .refused2 .ensures
+    ∙ check-bad (a .page) (a .da4s) (a .h .now) (back3 .before .fields-of .result) (back3 .fault-of .result) (back5 .if1 .left)
+    (back3 .before .fields-of .ensures) (back3 .fault-of .ensures) (c .before .before .faultless .ensures) (c .before .if2 .left)
 
 pub check-spec : {M : Type 1} → statement M
 check-spec =
     tie.close
     (tie.spec
-    no-fields-requires
+    refused-requires
     returns
     fields-of-requires
     fault-of-requires
-    judged-requires
-    returns-2)
+    faultless-requires
+    returns-2
+    refused-requires-2
+    returns-3)

@@ -1,12 +1,24 @@
--- `header::write` meets its contract: the puts follow one another.
+-- `header::write` meets its contract: ?
 -- Assumes nothing.
 use borrow.Author.Needs.{needs}
 use Rattle.header.specs.Back.{write-is}
 use Rattle.header.proofs.write.Statement.{statement}
 use Rattle.header.proofs.write.Tie as tie
 
-numbers-of-requires : tie.Need-numbers-of-requires
-numbers-of-requires c κs = search needs
+array-write-out : tie.Need-array-write-out
+array-write-out c = search needs
+
+slice-aggregate-put-last : tie.Need-slice-aggregate-put-last
+slice-aggregate-put-last c = search needs
+
+words-of-requires : tie.Need-words-of-requires
+words-of-requires c κs = search needs
+
+put-last-requires : tie.Need-put-last-requires
+put-last-requires c κs = search needs
+
+marks-of-requires : tie.Need-marks-of-requires
+marks-of-requires c κs = search needs
 
 slice-aggregate-put : tie.Need-slice-aggregate-put
 slice-aggregate-put c = search needs
@@ -16,18 +28,6 @@ slice-aggregate-put-2 c = search needs
 
 put-requires : tie.Need-put-requires
 put-requires c κs = search needs
-
-marks-of-requires : tie.Need-marks-of-requires
-marks-of-requires c κs = search needs
-
-slice-aggregate-put-3 : tie.Need-slice-aggregate-put-3
-slice-aggregate-put-3 c = search needs
-
-slice-aggregate-put-4 : tie.Need-slice-aggregate-put-4
-slice-aggregate-put-4 c = search needs
-
-put-requires-2 : tie.Need-put-requires-2
-put-requires-2 c κs = search needs
 
 slice-aggregate-put-reason : tie.Need-slice-aggregate-put-reason
 slice-aggregate-put-reason c = search needs
@@ -40,25 +40,24 @@ returns c =
     let back4 = c .before .before .before .before in
     let back7 = back4 .before .before .before in
     let back9 = back7 .before .before in
-    let back12 = back9 .before .before .before in
-    let back15 = back12 .before .before .before in
-    let start = back15 .args in
+    let back10 = back9 .before in
+    let start = back10 .before .before .before .before .args in
     let reason = c .before .put-reason .ensures in
-    write-is (start .f) (reason .1) (back12 .numbers-of .ensures) (back7 .marks-of .ensures) (back9 .put .ensures)
-    (back4 .put2 .ensures) (reason .0)
+    write-is (start .f) (back10 .words-of .result) (reason .1) (back10 .words-of .ensures) (back7 .marks-of .ensures)
+    (back9 .put-last .ensures) (back4 .put .ensures) (reason .0)
 
 pub write-spec : {M : Type 1} → statement M
 write-spec =
     tie.close
     (tie.spec
-    numbers-of-requires
+    array-write-out
+    slice-aggregate-put-last
+    words-of-requires
+    put-last-requires
+    marks-of-requires
     slice-aggregate-put
     slice-aggregate-put-2
     put-requires
-    marks-of-requires
-    slice-aggregate-put-3
-    slice-aggregate-put-4
-    put-requires-2
     slice-aggregate-put-reason
     put-reason-requires
     returns)
