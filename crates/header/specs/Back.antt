@@ -11,7 +11,7 @@ use lib.Dec.{eqb}
 use Rattle.choices.specs.Choice.{pick}
 use Rattle.choices.specs.Tests.{each}
 use Rattle.copies.specs.Parts.{zeros, putAt, put-end}
-use Rattle.littleendian.specs.Numbers.{bytesOf, lastBytes, valueAt, reasonAt}
+use Rattle.littleendian.specs.Numbers.{bytesOf, foursOf, valueAt, reasonAt}
 use Rattle.littleendian.specs.Back.{value-back, first, both, join, low2, low3}
 use Rattle.littleendian.specs.Puts.{then}
 use Rattle.pages.specs.Pages.{hostPage, block, perPage}
@@ -47,22 +47,22 @@ three-above a =
 
 -- bytes 0 to 19, the last sixteen from four numbers of four bytes
 pub words-are : (oui : ℕ) (last : List ℕ) (page : ℕ)
-    → (page ∷ zeros 3) ++ lastBytes (256 * (oui % 16777216) ∷ (getD last 0 0 % 65536 + 65536 * (getD last 1 0 % 65536)) ∷ getD last 2 0 % 65536 ∷ getD last 3 0 ∷ [])
+    → (page ∷ zeros 3) ++ foursOf (256 * (oui % 16777216) ∷ (getD last 0 0 % 65536 + 65536 * (getD last 1 0 % 65536)) ∷ getD last 2 0 % 65536 ∷ getD last 3 0 ∷ [])
     ≡ numbers page oui last
 words-are oui last page =
     ap (λ (l : List ℕ). (page ∷ zeros 3) ++ l)
     (join (three-above oui) (two-halves (getD last 0 0) (getD last 1 0)) (low-half (getD last 2 0)) refl)
 
-front-is : (f : Fields) (w : List ℕ) {o p : List ℕ} → ((page : ℕ) → (page ∷ zeros 3) ++ lastBytes w ≡ numbers page (f .oui) (f .last))
-    → o ≡ putAt (f .page ∷ zeros 511) 4 (lastBytes w) → p ≡ putAt o 380 (marks f)
+front-is : (f : Fields) (w : List ℕ) {o p : List ℕ} → ((page : ℕ) → (page ∷ zeros 3) ++ foursOf w ≡ numbers page (f .oui) (f .last))
+    → o ≡ putAt (f .page ∷ zeros 511) 4 (foursOf w) → p ≡ putAt o 380 (marks f)
     → p ≡ numbers (f .page) (f .oui) (f .last) ++ zeros 360 ++ marks f ++ zeros 128
 unfolding putAt
 front-is f w n e1 e2 = then 380 (marks f) e1 e2 ∙ ap (λ (l : List ℕ). l ++ zeros 360 ++ marks f ++ zeros 128) (n (f .page))
 
 -- the puts that write a header follow one another, and the reason ends where the header ends
 pub write-is : (f : Fields) (w : List ℕ) {m o p r : List ℕ} → length (f .reason) ≡ 128
-    → ((page : ℕ) → (page ∷ zeros 3) ++ lastBytes w ≡ numbers page (f .oui) (f .last)) → m ≡ marks f
-    → o ≡ putAt (f .page ∷ zeros 511) 4 (lastBytes w) → p ≡ putAt o 380 m → r ≡ putAt p 384 (f .reason)
+    → ((page : ℕ) → (page ∷ zeros 3) ++ foursOf w ≡ numbers page (f .oui) (f .last)) → m ≡ marks f
+    → o ≡ putAt (f .page ∷ zeros 511) 4 (foursOf w) → p ≡ putAt o 380 m → r ≡ putAt p 384 (f .reason)
     → r ≡ headerOf f
 unfolding headerOf
 write-is f w {o = o} l n em e1 e2 e3 =

@@ -9,7 +9,7 @@ ghost use mathlib.Core.List.{_∷_, _++_};
 ghost use lib.ListN.{length};
 ghost use Rattle.choices.specs.Choice.{firstThat};
 ghost use Rattle.copies.specs.Parts.{zeros};
-ghost use Rattle.littleendian.specs.Numbers.{lastBytes};
+ghost use Rattle.littleendian.specs.Numbers.{foursOf};
 ghost use Rattle.header.specs.declared.Fault.the-variants.{None};
 ghost use Rattle.header.specs.Header.{numbers, marks, headerOf, fieldsOf, faultless, answerOf, faultOrder, fieldFault, noFields, checkOf};
 
@@ -67,7 +67,7 @@ fn marks_of(f: Fields) -> [u8; 4]
 // Bytes 4 to 19 as four numbers of four bytes each: a zero byte and the OUI; the last blocks of areas 1 and 2; that of area 3 and two zero
 // bytes; that of area 4.
 fn words_of(oui: u32, last: [u32; 4]) -> [u32; 4]
-    ensures { λ r. ⌜ ((page : ℕ) → (page ∷ zeros 3) ++ lastBytes r ≡ numbers page oui last) ⌝ }
+    ensures { λ r. ⌜ ((page : ℕ) → (page ∷ zeros 3) ++ foursOf r ≡ numbers page oui last) ⌝ }
 {
     let area1 = last[0] % 65536;
     let area2 = last[1] % 65536;
@@ -88,7 +88,7 @@ pub fn write(f: Fields) -> [u8; 512]
     let reason = f.reason;
     let mut out = [0u8; 512];
     out[0] = f.page;
-    littleendian::put_last(&mut out, 4, words_of(f.oui, last));
+    littleendian::put_fours(&mut out, 4, words_of(f.oui, last));
     copies::put(&marks_of(f), &mut out, 380);
     littleendian::put_reason(&mut out, 384, reason);
     out

@@ -7,7 +7,7 @@ use native.Mathlib.Omega.{arith}
 use native.Mathlib.Nat.{mod-eq-of-lt}
 use lib.ListN.{length, getD, take, drop}
 use lib.Seq.{take-all, drop-cons}
-use Rattle.littleendian.specs.Numbers.{bytesOf, valueOf, valueAt, lastBytes, lastAt}
+use Rattle.littleendian.specs.Numbers.{bytesOf, valueOf, valueAt, foursOf, foursAt}
 
 -- a number that fits in n bytes is what its n bytes say
 pub value-back : (n x : ℕ) → x < 256 ^ n → valueOf (bytesOf n x) ≡ x
@@ -88,20 +88,20 @@ bytes-kept (suc (suc n)) i b t =
     rw (byte-low (getD b i 0) (valueAt (suc n) (suc i) b) (t i), byte-high (getD b i 0) (valueAt (suc n) (suc i) b) (t i))
     (ap (λ (r : List ℕ). getD b i 0 ∷ r) (bytes-kept (suc n) (suc i) b t))
 
--- ---- four last blocks
+-- ---- four numbers of four bytes
 
 -- four numbers that four bytes each can hold
 pub record Four (a : List ℕ) : Type 0 where
   pub four : length a ≡ 4
   pub each : (i : ℕ) → getD a i 0 < 256 ^ 4
 
-pub last-back : (a : List ℕ) → Four a → lastAt 0 (lastBytes a) ≡ a
-last-back a f =
+pub fours-back : (a : List ℕ) → Four a → foursAt 0 (foursOf a) ≡ a
+fours-back a f =
     let a1 = value-back 4 (getD a 0 0) (f .each 0) in
     let a2 = value-back 4 (getD a 1 0) (f .each 1) in
     let a3 = value-back 4 (getD a 2 0) (f .each 2) in
     let a4 = value-back 4 (getD a 3 0) (f .each 3) in
     rw (a1, a2, a3, a4) (run-all 4 a (f .four))
 
-pub last-kept : (i : ℕ) (b : List ℕ) → Bytes b → lastBytes (lastAt i b) ≡ run 4 i b ++ run 4 (i + 4) b ++ run 4 (i + 8) b ++ run 4 (i + 12) b
-last-kept i b t = join (bytes-kept 4 i b t) (bytes-kept 4 (i + 4) b t) (bytes-kept 4 (i + 8) b t) (bytes-kept 4 (i + 12) b t)
+pub fours-kept : (i : ℕ) (b : List ℕ) → Bytes b → foursOf (foursAt i b) ≡ run 4 i b ++ run 4 (i + 4) b ++ run 4 (i + 8) b ++ run 4 (i + 12) b
+fours-kept i b t = join (bytes-kept 4 i b t) (bytes-kept 4 (i + 4) b t) (bytes-kept 4 (i + 8) b t) (bytes-kept 4 (i + 12) b t)

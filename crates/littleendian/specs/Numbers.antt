@@ -21,13 +21,13 @@ valueAt zero i b = 0
 valueAt (suc zero) i b = getD b i 0
 valueAt (suc (suc n)) i b = getD b i 0 + 256 * valueAt (suc n) (suc i) b
 
--- four last blocks as 16 bytes
-abbrev pub lastBytes : List ℕ → List ℕ
-lastBytes a = bytesOf 4 (getD a 0 0) ++ bytesOf 4 (getD a 1 0) ++ bytesOf 4 (getD a 2 0) ++ bytesOf 4 (getD a 3 0)
+-- four numbers as 16 bytes
+abbrev pub foursOf : List ℕ → List ℕ
+foursOf a = bytesOf 4 (getD a 0 0) ++ bytesOf 4 (getD a 1 0) ++ bytesOf 4 (getD a 2 0) ++ bytesOf 4 (getD a 3 0)
 
--- the four last blocks in the 16 bytes of b from i on
-abbrev pub lastAt : ℕ → List ℕ → List ℕ
-lastAt i b = valueAt 4 i b ∷ valueAt 4 (i + 4) b ∷ valueAt 4 (i + 8) b ∷ valueAt 4 (i + 12) b ∷ []
+-- the four numbers in the 16 bytes of b from i on
+abbrev pub foursAt : ℕ → List ℕ → List ℕ
+foursAt i b = valueAt 4 i b ∷ valueAt 4 (i + 4) b ∷ valueAt 4 (i + 8) b ∷ valueAt 4 (i + 12) b ∷ []
 
 -- the 128 bytes of a reason in b from i on
 abbrev pub reasonAt : ℕ → List ℕ → List ℕ

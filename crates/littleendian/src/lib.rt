@@ -1,4 +1,5 @@
-// Numbers and arrays as bytes at a place of a slice: little-endian numbers of four and eight bytes, four last blocks, and a reason.
+// Numbers and arrays as bytes at a place of a slice: little-endian numbers of four and eight bytes, four numbers of four, and a
+// reason.
 //
 // It rests on copies. It promises that each is put as, and read from, exactly the bytes of specs/Numbers.antt, and that
 // nothing is lost on either way (specs/Back.antt).
@@ -7,7 +8,7 @@ ghost use Prim.Native.Nat.{_+_, _≤_};
 ghost use mathlib.Core.List.{[], _∷_};
 ghost use lib.ListN.{length};
 ghost use Rattle.copies.specs.Parts.{putAt};
-ghost use Rattle.littleendian.specs.Numbers.{bytesOf, valueOf, valueAt, lastBytes, lastAt, reasonAt};
+ghost use Rattle.littleendian.specs.Numbers.{bytesOf, valueOf, valueAt, foursOf, foursAt, reasonAt};
 
 // ---- writing
 
@@ -37,9 +38,9 @@ pub fn put8(out: &mut [u8], at: usize, y: u64)
     copies::put(&halves, out, at);
 }
 
-// Four last blocks, four bytes each, in the same way.
-pub fn put_last(out: &mut [u8], at: usize, a: [u32; 4])
-    ensures { λ _. ⌜ now (out .exit) ≡ putAt (now (out .entry)) at (lastBytes a) ⌝ }
+// Four numbers of four bytes each, in the same way.
+pub fn put_fours(out: &mut [u8], at: usize, a: [u32; 4])
+    ensures { λ _. ⌜ now (out .exit) ≡ putAt (now (out .entry)) at (foursOf a) ⌝ }
 {
     let mut b = [0u8; 16];
     put4(&mut b, 0, a[0]);
@@ -81,10 +82,10 @@ pub fn value8_at(b: &[u8], i: usize) -> u64
     (value4_at(b, i) as u64) + 4294967296 * (value4_at(b, i + 4) as u64)
 }
 
-// The four last blocks in the sixteen bytes from `i` on.
-pub fn last_at(b: &[u8], i: usize) -> [u32; 4]
+// The four numbers in the sixteen bytes from `i` on.
+pub fn fours_at(b: &[u8], i: usize) -> [u32; 4]
     requires { ⌜ i + 16 ≤ length (now b) ⌝ }
-    ensures { λ r. ⌜ r ≡ lastAt i (now (b .entry)) ⌝ }
+    ensures { λ r. ⌜ r ≡ foursAt i (now (b .entry)) ⌝ }
 {
     let a1 = value4_at(b, i);
     let a2 = value4_at(b, i + 4);

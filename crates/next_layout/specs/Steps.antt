@@ -4,13 +4,13 @@ use Prim.Native.Nat.{ℕ}
 use mathlib.Core.Path.{_≡_}
 use mathlib.Core.List.{List, [], _∷_}
 use Rattle.copies.specs.Parts.{zeros, putAt}
-use Rattle.littleendian.specs.Numbers.{bytesOf, lastBytes}
+use Rattle.littleendian.specs.Numbers.{bytesOf, foursOf}
 use Rattle.littleendian.specs.Puts.{then}
 use Rattle.words.specs.declared.Words.{Words}
 use Rattle.next_layout.specs.Layout.{nextParts}
 
 pub next-is : (kind answer newer : ℕ) (w : Words) (count : ℕ) {p q r : List ℕ}
-    → p ≡ putAt (kind ∷ answer ∷ newer ∷ zeros 29) 4 (lastBytes (w .cdw10 ∷ w .cdw11 ∷ w .cdw12 ∷ w .cdw13 ∷ [])) → q ≡ putAt p 20 (bytesOf 4 (w .cdw14))
+    → p ≡ putAt (kind ∷ answer ∷ newer ∷ zeros 29) 4 (foursOf (w .cdw10 ∷ w .cdw11 ∷ w .cdw12 ∷ w .cdw13 ∷ [])) → q ≡ putAt p 20 (bytesOf 4 (w .cdw14))
     → r ≡ putAt q 24 (bytesOf 8 count)
     → r ≡ nextParts kind answer newer w count
 unfolding putAt nextParts

@@ -33,7 +33,7 @@ fn next_parts(kind: u8, answer: u8, newer: u8, w: Words, count: u64) -> [u8; 32]
     out[1] = answer;
     out[2] = newer;
     let words = [w.cdw10, w.cdw11, w.cdw12, w.cdw13];
-    littleendian::put_last(&mut out, 4, words);
+    littleendian::put_fours(&mut out, 4, words);
     littleendian::put4(&mut out, 20, w.cdw14);
     littleendian::put8(&mut out, 24, count);
     out

@@ -10,7 +10,7 @@ use lib.Seq.{take-all, drop-drop, take-at, drop-at}
 use borrow.Author.Tests.{le-leb, eqb-true}
 use Rattle.choices.specs.Tests.{holds, each}
 use Rattle.littleendian.specs.Numbers.{reasonAt}
-use Rattle.littleendian.specs.Back.{value-back, run-is, join, Bytes, bytes-kept, last-back, last-kept, eight}
+use Rattle.littleendian.specs.Back.{value-back, run-is, join, Bytes, bytes-kept, fours-back, fours-kept, eight}
 use Rattle.pages.specs.declared.Caps.{Caps}
 use Rattle.records.specs.declared.Record.{Record}
 use Rattle.records.specs.Back.{Typed}
@@ -47,9 +47,9 @@ record-back r t =
     let f = recordFront (recordMarks r) (r .identity .oui) (r .host .last) (r .controller .last) in
     same-record r (caps-back (r .caps))
     (value-back 4 (r .identity .oui) (t .ranged .oui))
-    (last-back (r .host .last) (record { four = t .sized .host-four; each = t .ranged .host-last }))
+    (fours-back (r .host .last) (record { four = t .sized .host-four; each = t .ranged .host-last }))
     (host-reason-back f (r .host .reason) (r .controller .reason) refl (t .sized .host-reason))
-    (last-back (r .controller .last) (record { four = t .sized .controller-four; each = t .ranged .controller-last }))
+    (fours-back (r .controller .last) (record { four = t .sized .controller-four; each = t .ranged .controller-last }))
     (controller-reason-back f (r .host .reason) (r .controller .reason) refl (t .sized .host-reason) (t .sized .controller-reason))
     (one-back (r .controller .notice))
 
@@ -71,5 +71,5 @@ record-bytes-back b l t s =
     (sym (eqb-true (getD b 7 0) 0 (each _ s 2)))
     in
     ap (λ (f : List ℕ). f ++ reasonAt 44 b ++ reasonAt 172 b)
-    (join marks (bytes-kept 4 8 b t) (last-kept 12 b t) (last-kept 28 b t) ∙ run-is 44 0 b (omega arith))
+    (join marks (bytes-kept 4 8 b t) (fours-kept 12 b t) (fours-kept 28 b t) ∙ run-is 44 0 b (omega arith))
     ∙ parts-all 44 128 b (omega arith)

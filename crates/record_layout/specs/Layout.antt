@@ -6,7 +6,7 @@ use mathlib.Core.Bool.{Bool}
 use lib.ListN.{getD}
 use lib.Dec.{leb, eqb}
 use Rattle.choices.specs.Tests.{holds}
-use Rattle.littleendian.specs.Numbers.{bytesOf, valueAt, lastBytes, lastAt, reasonAt}
+use Rattle.littleendian.specs.Numbers.{bytesOf, valueAt, foursOf, foursAt, reasonAt}
 use Rattle.records.specs.declared.HostPage.{HostPage}
 use Rattle.records.specs.declared.ControllerPage.{ControllerPage}
 use Rattle.records.specs.declared.Record.{Record}
@@ -30,8 +30,8 @@ abbrev pub recordFront : List ℕ → ℕ → List ℕ → List ℕ → List ℕ
 recordFront marks oui hostLast controllerLast =
     marks
     ++ bytesOf 4 oui  -- 8
-    ++ lastBytes hostLast  -- 12
-    ++ lastBytes controllerLast  -- 28
+    ++ foursOf hostLast  -- 12
+    ++ foursOf controllerLast  -- 28
 
 -- a record's 300 bytes
 unfoldable pub recordBytes : Record → List ℕ
@@ -42,11 +42,11 @@ recordBytes r =
 
 -- page 07h in a record's bytes
 abbrev pub hostAt : List ℕ → HostPage
-hostAt b = record { last = lastAt 12 b; generation = getD b 3 0; reason = reasonAt 44 b }
+hostAt b = record { last = foursAt 12 b; generation = getD b 3 0; reason = reasonAt 44 b }
 
 -- page 08h in a record's bytes
 abbrev pub controllerAt : List ℕ → ControllerPage
-controllerAt b = record { last = lastAt 28 b; generation = getD b 4 0; tcda = getD b 5 0; notice = eqb (getD b 6 0) 1; reason = reasonAt 172 b }
+controllerAt b = record { last = foursAt 28 b; generation = getD b 4 0; tcda = getD b 5 0; notice = eqb (getD b 6 0) 1; reason = reasonAt 172 b }
 
 -- the record that the bytes say
 unfoldable pub recordAt : List ℕ → Record

@@ -9,7 +9,7 @@ use lib.ListN.{length, getD, drop, length-append, length-drop}
 use lib.Dec.{eqb}
 use lib.Seq.{take-at}
 use Rattle.copies.specs.Parts.{zeros, putAt, put-end, put-next}
-use Rattle.littleendian.specs.Numbers.{bytesOf, valueAt, lastBytes, lastAt, reasonAt}
+use Rattle.littleendian.specs.Numbers.{bytesOf, valueAt, foursOf, foursAt, reasonAt}
 use Rattle.littleendian.specs.Puts.{then}
 use Rattle.pages.specs.declared.Caps.{Caps}
 use Rattle.records.specs.declared.HostPage.{HostPage}
@@ -28,12 +28,12 @@ marks-are r e f = rw (e, f)
 
 record-front : (r : Record) {m o p q s : List ℕ}
     → m ≡ recordMarks r → o ≡ putAt (zeros 300) 0 m → p ≡ putAt o 8 (bytesOf 4 (r .identity .oui))
-    → q ≡ putAt p 12 (lastBytes (r .host .last)) → s ≡ putAt q 28 (lastBytes (r .controller .last))
+    → q ≡ putAt p 12 (foursOf (r .host .last)) → s ≡ putAt q 28 (foursOf (r .controller .last))
     → s ≡ recordFront (recordMarks r) (r .identity .oui) (r .host .last) (r .controller .last) ++ zeros 256
 unfolding putAt
 record-front r em e1 e2 e3 e4 =
-    then 28 (lastBytes (r .controller .last))
-    (then 12 (lastBytes (r .host .last))
+    then 28 (foursOf (r .controller .last))
+    (then 12 (foursOf (r .host .last))
     (then 8 (bytesOf 4 (r .identity .oui)) (e1 ∙ ap (λ (l : List ℕ). putAt (zeros 300) 0 l) em) e2)
     e3)
     e4
@@ -51,7 +51,7 @@ reasons-are f h k lf lh lk e1 e2 =
 -- a record
 pub record-is : (r : Record) {m o p q s t u : List ℕ} → length (r .host .reason) ≡ 128 → length (r .controller .reason) ≡ 128
     → m ≡ recordMarks r → o ≡ putAt (zeros 300) 0 m → p ≡ putAt o 8 (bytesOf 4 (r .identity .oui))
-    → q ≡ putAt p 12 (lastBytes (r .host .last)) → s ≡ putAt q 28 (lastBytes (r .controller .last))
+    → q ≡ putAt p 12 (foursOf (r .host .last)) → s ≡ putAt q 28 (foursOf (r .controller .last))
     → t ≡ putAt s 44 (r .host .reason) → u ≡ putAt t 172 (r .controller .reason)
     → u ≡ recordBytes r
 unfolding recordBytes
@@ -62,11 +62,11 @@ record-is r lh lk em e1 e2 e3 e4 e5 e6 =
 
 -- ---- reading
 
-pub host-is : (b : List ℕ) {last reason : List ℕ} → last ≡ lastAt 12 b → reason ≡ reasonAt 44 b
+pub host-is : (b : List ℕ) {last reason : List ℕ} → last ≡ foursAt 12 b → reason ≡ reasonAt 44 b
     → record { last = last; generation = getD b 3 0; reason = reason } ≡ hostAt b
 host-is b l r = rw (l, r)
 
-pub controller-is : (b : List ℕ) {last reason : List ℕ} → last ≡ lastAt 28 b → reason ≡ reasonAt 172 b
+pub controller-is : (b : List ℕ) {last reason : List ℕ} → last ≡ foursAt 28 b → reason ≡ reasonAt 172 b
     → record { last = last; generation = getD b 4 0; tcda = getD b 5 0; notice = eqb (getD b 6 0) 1; reason = reason } ≡ controllerAt b
 controller-is b l r = rw (l, r)
 

@@ -46,8 +46,8 @@ pub fn write_record(r: Record) -> [u8; 300]
     let mut out = [0u8; 300];
     copies::put(&record_marks(r), &mut out, 0);
     littleendian::put4(&mut out, 8, identity.oui);
-    littleendian::put_last(&mut out, 12, host_last);
-    littleendian::put_last(&mut out, 28, controller_last);
+    littleendian::put_fours(&mut out, 12, host_last);
+    littleendian::put_fours(&mut out, 28, controller_last);
     littleendian::put_reason(&mut out, 44, host_reason);
     littleendian::put_reason(&mut out, 172, controller_reason);
     out
@@ -56,7 +56,7 @@ pub fn write_record(r: Record) -> [u8; 300]
 fn host_at(b: &[u8; 300]) -> HostPage
     ensures { λ x. ⌜ x ≡ hostAt (now (b .entry)) ⌝ }
 {
-    let last = littleendian::last_at(b, 12);
+    let last = littleendian::fours_at(b, 12);
     let reason = littleendian::reason_at(b, 44);
     HostPage {
         last,
@@ -68,7 +68,7 @@ fn host_at(b: &[u8; 300]) -> HostPage
 fn controller_at(b: &[u8; 300]) -> ControllerPage
     ensures { λ x. ⌜ x ≡ controllerAt (now (b .entry)) ⌝ }
 {
-    let last = littleendian::last_at(b, 28);
+    let last = littleendian::fours_at(b, 28);
     let reason = littleendian::reason_at(b, 172);
     ControllerPage {
         last,

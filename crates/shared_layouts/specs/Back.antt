@@ -13,7 +13,7 @@ use borrow.Author.Tests.{le-leb, leb-true, eqb-true, eqb-false}
 use Rattle.choices.specs.Choice.{pick}
 use Rattle.choices.specs.Tests.{by-test}
 use Rattle.copies.specs.Parts.{zeros, putAt, put-end}
-use Rattle.littleendian.specs.Numbers.{bytesOf, lastBytes}
+use Rattle.littleendian.specs.Numbers.{bytesOf, foursOf}
 use Rattle.littleendian.specs.Puts.{then}
 use Rattle.pages.specs.declared.Caps.{Caps}
 use Rattle.header.specs.declared.Fields.{Fields}
@@ -103,15 +103,15 @@ one-kept (suc (suc n)) e = let h = leb-true (suc (suc n)) 1 e in absurd (omega a
 
 fields-front : (f : Fields) {p q : List ℕ}
     → p ≡ putAt (f .page ∷ f .scope ∷ f .hostgeneration ∷ f .tcda ∷ f .controllergeneration ∷ zeros 151) 8 (bytesOf 4 (f .oui))
-    → q ≡ putAt p 12 (lastBytes (f .last))
+    → q ≡ putAt p 12 (foursOf (f .last))
     → q ≡ fieldsFront f ++ zeros 128
 unfolding putAt
-fields-front f e1 e2 = then 12 (lastBytes (f .last)) e1 e2
+fields-front f e1 e2 = then 12 (foursOf (f .last)) e1 e2
 
 -- a header's fields
 pub fields-is : (f : Fields) {p q r : List ℕ} → length (f .reason) ≡ 128
     → p ≡ putAt (f .page ∷ f .scope ∷ f .hostgeneration ∷ f .tcda ∷ f .controllergeneration ∷ zeros 151) 8 (bytesOf 4 (f .oui))
-    → q ≡ putAt p 12 (lastBytes (f .last)) → r ≡ putAt q 28 (f .reason)
+    → q ≡ putAt p 12 (foursOf (f .last)) → r ≡ putAt q 28 (f .reason)
     → r ≡ fieldsBytes f
 unfolding fieldsBytes
 fields-is f l e1 e2 e3 =

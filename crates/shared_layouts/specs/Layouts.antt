@@ -6,7 +6,7 @@ use mathlib.Core.List.{List, [], _∷_, _++_}
 use mathlib.Core.Bool.{Bool, _&&_}
 use lib.Dec.{leb, eqb}
 use Rattle.choices.specs.Choice.{pick}
-use Rattle.littleendian.specs.Numbers.{bytesOf, lastBytes}
+use Rattle.littleendian.specs.Numbers.{bytesOf, foursOf}
 use Rattle.pages.specs.declared.Caps.{Caps}
 use Rattle.header.specs.declared.Fields.{Fields}
 
@@ -39,7 +39,7 @@ abbrev pub fieldsFront : Fields → List ℕ
 fieldsFront f =
     (f .page ∷ f .scope ∷ f .hostgeneration ∷ f .tcda ∷ f .controllergeneration ∷ 0 ∷ 0 ∷ 0 ∷ [])
     ++ bytesOf 4 (f .oui)  -- 8
-    ++ lastBytes (f .last)  -- 12
+    ++ foursOf (f .last)  -- 12
 
 -- a header's fields as 156 bytes
 unfoldable pub fieldsBytes : Fields → List ℕ

@@ -54,7 +54,7 @@ pub fn write_fields(f: Fields) -> [u8; 156]
     out[3] = f.tcda;
     out[4] = f.controllergeneration;
     littleendian::put4(&mut out, 8, f.oui);
-    littleendian::put_last(&mut out, 12, last);
+    littleendian::put_fours(&mut out, 12, last);
     littleendian::put_reason(&mut out, 28, reason);
     out
 }

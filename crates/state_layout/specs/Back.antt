@@ -10,7 +10,7 @@ use lib.Dec.{leb, eqb}
 use borrow.Author.Tests.{le-leb, leb-true, eqb-true}
 use Rattle.choices.specs.Tests.{holds, each}
 use Rattle.littleendian.specs.Numbers.{bytesOf, valueOf, valueAt}
-use Rattle.littleendian.specs.Back.{value-back, run-all, both, join, Bytes, bytes-kept, Four, last-back, last-kept, eight}
+use Rattle.littleendian.specs.Back.{value-back, run-all, both, join, Bytes, bytes-kept, Four, fours-back, fours-kept, eight}
 use Rattle.pages.specs.declared.Caps.{Caps}
 use Rattle.plans.specs.declared.Phase.{Phase}
 use Rattle.plans.specs.declared.Phase.the-variants.{First, Chunk, Close, Ack, Ended}
@@ -85,7 +85,7 @@ state-back s t =
     (phase-back (s .phase) (t .start))
     (value-back 4 (s .attempt .number) (t .attempt))
     (value-back 8 (s .count) (t .count))
-    (last-back (s .attempt .last) (t .last))
+    (fours-back (s .attempt .last) (t .last))
 
 -- what holds of each phase's number holds of a number of at most 5
 phases : (P : ℕ → Type 0) → P 0 → P 1 → P 2 → P 3 → P 4 → P 5 → (n : ℕ) → leb n 5 ≡ true → P n
@@ -123,4 +123,4 @@ state-bytes-back b l t s =
     ap (λ (n : ℕ). bytesOf 4 n) (start-kept (getD b 0 0) (valueAt 4 20 b) (each _ s 0) (each _ s 5)) ∙ bytes-kept 4 20 b t
     in
     let front = join marks (bytes-kept 4 8 b t) (bytes-kept 4 12 b t) (bytes-kept 4 16 b t) in
-    both (join front start (bytes-kept 8 24 b t) (bytes-kept 8 32 b t)) (last-kept 40 b t) ∙ run-all 56 b l
+    both (join front start (bytes-kept 8 24 b t) (bytes-kept 8 32 b t)) (fours-kept 40 b t) ∙ run-all 56 b l

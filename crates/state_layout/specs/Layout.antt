@@ -7,7 +7,7 @@ use lib.ListN.{getD}
 use lib.Dec.{leb, eqb}
 use Rattle.choices.specs.Choice.{pick}
 use Rattle.choices.specs.Tests.{holds}
-use Rattle.littleendian.specs.Numbers.{bytesOf, valueAt, lastBytes, lastAt}
+use Rattle.littleendian.specs.Numbers.{bytesOf, valueAt, foursOf, foursAt}
 use Rattle.plans.specs.declared.Plan.{Plan}
 use Rattle.plans.specs.declared.Phase.{Phase}
 use Rattle.plans.specs.declared.Phase.the-variants.{First, Chunk, Close, Ack, Ended}
@@ -58,7 +58,7 @@ stateBytes s =
     ++ bytesOf 4 (chunkStart (s .phase))  -- 20
     ++ bytesOf 8 (s .plan .room)  -- 24
     ++ bytesOf 8 (s .count)  -- 32
-    ++ lastBytes (s .attempt .last)  -- 40
+    ++ foursOf (s .attempt .last)  -- 40
 
 -- the plan in a state's bytes, with the blocks of a chunk and the attempts
 abbrev pub planFrom : List ℕ → ℕ → ℕ → Plan
@@ -77,7 +77,7 @@ unfoldable pub stateAt : List ℕ → Collection
 stateAt b = record {
   plan = planFrom b (valueAt 4 8 b) (valueAt 4 12 b);
   phase = phaseOf (getD b 0 0) (valueAt 4 20 b);
-  attempt = record { number = valueAt 4 16 b; generation = getD b 5 0; last = lastAt 40 b };
+  attempt = record { number = valueAt 4 16 b; generation = getD b 5 0; last = foursAt 40 b };
   count = valueAt 8 32 b;
 }
 

@@ -8,7 +8,7 @@ use lib.ListN.{getD}
 use lib.Dec.{leb, eqb}
 use Rattle.choices.specs.Tests.{holds}
 use Rattle.copies.specs.Parts.{zeros, putAt}
-use Rattle.littleendian.specs.Numbers.{bytesOf, valueAt, lastBytes, lastAt}
+use Rattle.littleendian.specs.Numbers.{bytesOf, valueAt, foursOf, foursAt}
 use Rattle.littleendian.specs.Puts.{then}
 use Rattle.pages.specs.declared.Caps.{Caps}
 use Rattle.plans.specs.declared.Plan.{Plan}
@@ -19,16 +19,16 @@ use Rattle.state_layout.specs.Layout.{chunkStart, phaseOf, stateMarks, s
 
 -- a state
 pub state-is : (s : Collection) {start : ℕ} {m o p q r t : List ℕ} → m ≡ stateMarks s → start ≡ chunkStart (s .phase)
-    → o ≡ putAt (zeros 56) 0 m → p ≡ putAt o 8 (lastBytes (s .plan .chunk ∷ s .plan .attempts ∷ s .attempt .number ∷ start ∷ []))
-    → q ≡ putAt p 24 (bytesOf 8 (s .plan .room)) → r ≡ putAt q 32 (bytesOf 8 (s .count)) → t ≡ putAt r 40 (lastBytes (s .attempt .last))
+    → o ≡ putAt (zeros 56) 0 m → p ≡ putAt o 8 (foursOf (s .plan .chunk ∷ s .plan .attempts ∷ s .attempt .number ∷ start ∷ []))
+    → q ≡ putAt p 24 (bytesOf 8 (s .plan .room)) → r ≡ putAt q 32 (bytesOf 8 (s .count)) → t ≡ putAt r 40 (foursOf (s .attempt .last))
     → t ≡ stateBytes s
 unfolding putAt stateBytes
 state-is s {o = o} {p = p} em es e1 e2 e3 e4 e5 =
-    then 40 (lastBytes (s .attempt .last))
+    then 40 (foursOf (s .attempt .last))
     (then 32 (bytesOf 8 (s .count))
     (then 24 (bytesOf 8 (s .plan .room))
-    (then 8 (lastBytes (s .plan .chunk ∷ s .plan .attempts ∷ s .attempt .number ∷ chunkStart (s .phase) ∷ [])) (e1 ∙ ap (λ (l : List ℕ). putAt (zeros 56) 0 l) em)
-    (subst (λ (n : ℕ). p ≡ putAt o 8 (lastBytes (s .plan .chunk ∷ s .plan .attempts ∷ s .attempt .number ∷ n ∷ []))) es e2))
+    (then 8 (foursOf (s .plan .chunk ∷ s .plan .attempts ∷ s .attempt .number ∷ chunkStart (s .phase) ∷ [])) (e1 ∙ ap (λ (l : List ℕ). putAt (zeros 56) 0 l) em)
+    (subst (λ (n : ℕ). p ≡ putAt o 8 (foursOf (s .plan .chunk ∷ s .plan .attempts ∷ s .attempt .number ∷ n ∷ []))) es e2))
     e3)
     e4)
     e5
@@ -40,8 +40,8 @@ pub plan-is : (b : List ℕ) (chunk attempts : ℕ) {caps : Caps} {room : ℕ} �
     ≡ planFrom b chunk attempts
 plan-is b chunk attempts p r = rw (p, r)
 
-pub read-is : (b : List ℕ) {n : List ℕ} {plan : Plan} {phase : Phase} {count : ℕ} {last : List ℕ} → n ≡ lastAt 8 b → plan ≡ planFrom b (getD n 0 0) (getD n 1 0)
-    → phase ≡ phaseOf (getD b 0 0) (getD n 3 0) → count ≡ valueAt 8 32 b → last ≡ lastAt 40 b
+pub read-is : (b : List ℕ) {n : List ℕ} {plan : Plan} {phase : Phase} {count : ℕ} {last : List ℕ} → n ≡ foursAt 8 b → plan ≡ planFrom b (getD n 0 0) (getD n 1 0)
+    → phase ≡ phaseOf (getD b 0 0) (getD n 3 0) → count ≡ valueAt 8 32 b → last ≡ foursAt 40 b
     → record { plan = plan; phase = phase; attempt = record { number = getD n 2 0; generation = getD b 5 0; last = last }; count = count } ≡ stateAt b
 unfolding stateAt
 read-is b en p f c l = rw (p, f, c, l, en)

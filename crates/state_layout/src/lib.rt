@@ -81,10 +81,10 @@ pub fn write_state(s: Collection) -> [u8; 56]
     copies::put(&state_marks(s), &mut out, 0);
     let start = chunk_start(phase);
     let numbers = [plan.chunk, plan.attempts, attempt.number, start];
-    littleendian::put_last(&mut out, 8, numbers);
+    littleendian::put_fours(&mut out, 8, numbers);
     littleendian::put8(&mut out, 24, plan.room as u64);
     littleendian::put8(&mut out, 32, s.count);
-    littleendian::put_last(&mut out, 40, last);
+    littleendian::put_fours(&mut out, 40, last);
     out
 }
 
@@ -107,10 +107,10 @@ fn plan_at(b: &[u8; 56], chunk: u32, attempts: u32) -> Plan
 pub fn read_state(b: &[u8; 56]) -> Collection
     ensures { λ x. ⌜ x ≡ stateAt (now (b .entry)) ⌝ }
 {
-    let n = littleendian::last_at(b, 8);
+    let n = littleendian::fours_at(b, 8);
     let plan = plan_at(b, n[0], n[1]);
     let phase = phase_of(b[0], n[3]);
-    let last = littleendian::last_at(b, 40);
+    let last = littleendian::fours_at(b, 40);
     let attempt = Attempt {
         number: n[2],
         generation: b[5],

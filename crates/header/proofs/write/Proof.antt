@@ -8,14 +8,14 @@ use Rattle.header.proofs.write.Tie as tie
 array-write-out : tie.Need-array-write-out
 array-write-out c = search needs
 
-slice-aggregate-put-last : tie.Need-slice-aggregate-put-last
-slice-aggregate-put-last c = search needs
+slice-aggregate-put-fours : tie.Need-slice-aggregate-put-fours
+slice-aggregate-put-fours c = search needs
 
 words-of-requires : tie.Need-words-of-requires
 words-of-requires c κs = search needs
 
-put-last-requires : tie.Need-put-last-requires
-put-last-requires c κs = search needs
+put-fours-requires : tie.Need-put-fours-requires
+put-fours-requires c κs = search needs
 
 marks-of-requires : tie.Need-marks-of-requires
 marks-of-requires c κs = search needs
@@ -44,16 +44,16 @@ returns c =
     let start = back10 .before .before .before .before .args in
     let reason = c .before .put-reason .ensures in
     write-is (start .f) (back10 .words-of .result) (reason .1) (back10 .words-of .ensures) (back7 .marks-of .ensures)
-    (back9 .put-last .ensures) (back4 .put .ensures) (reason .0)
+    (back9 .put-fours .ensures) (back4 .put .ensures) (reason .0)
 
 pub write-spec : {M : Type 1} → statement M
 write-spec =
     tie.close
     (tie.spec
     array-write-out
-    slice-aggregate-put-last
+    slice-aggregate-put-fours
     words-of-requires
-    put-last-requires
+    put-fours-requires
     marks-of-requires
     slice-aggregate-put
     slice-aggregate-put-2

@@ -14,11 +14,11 @@ array-write-out-2 c = search needs
 array-write-out-3 : tie.Need-array-write-out-3
 array-write-out-3 c = search needs
 
-slice-aggregate-put-last : tie.Need-slice-aggregate-put-last
-slice-aggregate-put-last c = search needs
+slice-aggregate-put-fours : tie.Need-slice-aggregate-put-fours
+slice-aggregate-put-fours c = search needs
 
-put-last-requires : tie.Need-put-last-requires
-put-last-requires c κs = search needs
+put-fours-requires : tie.Need-put-fours-requires
+put-fours-requires c κs = search needs
 
 slice-aggregate-put4 : tie.Need-slice-aggregate-put4
 slice-aggregate-put4 c = search needs
@@ -37,7 +37,7 @@ returns c =
     let back4 = c .before .before .before .before in
     let back7 = back4 .before .before .before in
     let a = back7 .before .before .args in
-    next-is (a .kind) (a .answer) (a .newer) (a .w) (a .count) (back7 .put-last .ensures) (back4 .put4 .ensures) (c .before .put8 .ensures)
+    next-is (a .kind) (a .answer) (a .newer) (a .w) (a .count) (back7 .put-fours .ensures) (back4 .put4 .ensures) (c .before .put8 .ensures)
 
 pub next-parts-spec : {M : Type 1} → statement M
 next-parts-spec =
@@ -46,8 +46,8 @@ next-parts-spec =
     array-write-out
     array-write-out-2
     array-write-out-3
-    slice-aggregate-put-last
-    put-last-requires
+    slice-aggregate-put-fours
+    put-fours-requires
     slice-aggregate-put4
     put4-requires
     slice-aggregate-put8

@@ -5,8 +5,8 @@ use Rattle.record_layout.specs.Steps.{controller-is}
 use Rattle.record_layout.proofs.controller_at.Statement.{statement}
 use Rattle.record_layout.proofs.controller_at.Tie as tie
 
-last-at-requires : tie.Need-last-at-requires
-last-at-requires c κs = search needs
+fours-at-requires : tie.Need-fours-at-requires
+fours-at-requires c κs = search needs
 
 reason-at-requires : tie.Need-reason-at-requires
 reason-at-requires c κs = search needs
@@ -25,13 +25,13 @@ returns c =
     let back3 = c .before .before .before in
     let back5 = back3 .before .before in
     let back7 = back5 .before .before in
-    controller-is (back7 .args .b .now) (back5 .last-at .ensures) (back3 .reason-at .ensures)
+    controller-is (back7 .args .b .now) (back5 .fours-at .ensures) (back3 .reason-at .ensures)
 
 pub controller-at-spec : {M : Type 1} → statement M
 controller-at-spec =
     tie.close
     (tie.spec
-    last-at-requires
+    fours-at-requires
     reason-at-requires
     element-copy-out-t10
     element-copy-out-t13

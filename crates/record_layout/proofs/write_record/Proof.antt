@@ -23,17 +23,17 @@ slice-aggregate-put4 c = search needs
 put4-requires : tie.Need-put4-requires
 put4-requires c κs = search needs
 
-slice-aggregate-put-last : tie.Need-slice-aggregate-put-last
-slice-aggregate-put-last c = search needs
+slice-aggregate-put-fours : tie.Need-slice-aggregate-put-fours
+slice-aggregate-put-fours c = search needs
 
-put-last-requires : tie.Need-put-last-requires
-put-last-requires c κs = search needs
+put-fours-requires : tie.Need-put-fours-requires
+put-fours-requires c κs = search needs
 
-slice-aggregate-put-last-2 : tie.Need-slice-aggregate-put-last-2
-slice-aggregate-put-last-2 c = search needs
+slice-aggregate-put-fours-2 : tie.Need-slice-aggregate-put-fours-2
+slice-aggregate-put-fours-2 c = search needs
 
-put-last-requires-2 : tie.Need-put-last-requires-2
-put-last-requires-2 c κs = search needs
+put-fours-requires-2 : tie.Need-put-fours-requires-2
+put-fours-requires-2 c κs = search needs
 
 slice-aggregate-put-reason : tie.Need-slice-aggregate-put-reason
 slice-aggregate-put-reason c = search needs
@@ -59,7 +59,7 @@ returns c =
     let host = back4 .put-reason .ensures in
     let controller = c .before .put-reason2 .ensures in
     record-is (start .args .r) (host .1) (controller .1) (back19 .record-marks .ensures) (back16 .put .ensures) (back13 .put4 .ensures)
-    (back10 .put-last .ensures) (back7 .put-last2 .ensures) (host .0) (controller .0)
+    (back10 .put-fours .ensures) (back7 .put-fours2 .ensures) (host .0) (controller .0)
 
 pub write-record-spec : {M : Type 1} → statement M
 write-record-spec =
@@ -71,10 +71,10 @@ write-record-spec =
     put-requires
     slice-aggregate-put4
     put4-requires
-    slice-aggregate-put-last
-    put-last-requires
-    slice-aggregate-put-last-2
-    put-last-requires-2
+    slice-aggregate-put-fours
+    put-fours-requires
+    slice-aggregate-put-fours-2
+    put-fours-requires-2
     slice-aggregate-put-reason
     put-reason-requires
     slice-aggregate-put-reason-2

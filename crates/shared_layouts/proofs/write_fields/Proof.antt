@@ -26,11 +26,11 @@ slice-aggregate-put4 c = search needs
 put4-requires : tie.Need-put4-requires
 put4-requires c κs = search needs
 
-slice-aggregate-put-last : tie.Need-slice-aggregate-put-last
-slice-aggregate-put-last c = search needs
+slice-aggregate-put-fours : tie.Need-slice-aggregate-put-fours
+slice-aggregate-put-fours c = search needs
 
-put-last-requires : tie.Need-put-last-requires
-put-last-requires c κs = search needs
+put-fours-requires : tie.Need-put-fours-requires
+put-fours-requires c κs = search needs
 
 slice-aggregate-put-reason : tie.Need-slice-aggregate-put-reason
 slice-aggregate-put-reason c = search needs
@@ -44,7 +44,7 @@ returns c =
     let back7 = back4 .before .before .before in
     let start = back7 .before .before .before .before in
     let reason = c .before .put-reason .ensures in
-    fields-is (start .args .f) (reason .1) (back7 .put4 .ensures) (back4 .put-last .ensures) (reason .0)
+    fields-is (start .args .f) (reason .1) (back7 .put4 .ensures) (back4 .put-fours .ensures) (reason .0)
 
 pub write-fields-spec : {M : Type 1} → statement M
 write-fields-spec =
@@ -57,8 +57,8 @@ write-fields-spec =
     array-write-out-5
     slice-aggregate-put4
     put4-requires
-    slice-aggregate-put-last
-    put-last-requires
+    slice-aggregate-put-fours
+    put-fours-requires
     slice-aggregate-put-reason
     put-reason-requires
     returns)

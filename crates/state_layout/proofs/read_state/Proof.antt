@@ -5,8 +5,8 @@ use Rattle.state_layout.specs.Steps.{read-is}
 use Rattle.state_layout.proofs.read_state.Statement.{statement}
 use Rattle.state_layout.proofs.read_state.Tie as tie
 
-last-at-requires : tie.Need-last-at-requires
-last-at-requires c κs = search needs
+fours-at-requires : tie.Need-fours-at-requires
+fours-at-requires c κs = search needs
 
 array-read-plan-at : tie.Need-array-read-plan-at
 array-read-plan-at c = search needs
@@ -26,8 +26,8 @@ array-read-phase-of c = search needs
 phase-of-requires : tie.Need-phase-of-requires
 phase-of-requires c κs = search needs
 
-last-at-requires-2 : tie.Need-last-at-requires-2
-last-at-requires-2 c κs = search needs
+fours-at-requires-2 : tie.Need-fours-at-requires-2
+fours-at-requires-2 c κs = search needs
 
 array-read-t15 : tie.Need-array-read-t15
 array-read-t15 c = search needs
@@ -44,21 +44,21 @@ returns c =
     let back5 = back3 .before .before in
     let back7 = back5 .before .before in
     let back8 = back7 .before in
-    read-is (back8 .before .before .args .b .now) (back8 .last-at .ensures) (back7 .plan-at .ensures) (back5 .phase-of .ensures) (c .value8-at .ensures)
-    (back3 .last-at2 .ensures)
+    read-is (back8 .before .before .args .b .now) (back8 .fours-at .ensures) (back7 .plan-at .ensures) (back5 .phase-of .ensures) (c .value8-at .ensures)
+    (back3 .fours-at2 .ensures)
 
 pub read-state-spec : {M : Type 1} → statement M
 read-state-spec =
     tie.close
     (tie.spec
-    last-at-requires
+    fours-at-requires
     array-read-plan-at
     array-read-plan-at-2
     plan-at-requires
     element-copy-out-phase-of
     array-read-phase-of
     phase-of-requires
-    last-at-requires-2
+    fours-at-requires-2
     array-read-t15
     element-copy-out-t18
     value8-at-requires

@@ -20,11 +20,11 @@ put-requires c κs = search needs
 chunk-start-requires : tie.Need-chunk-start-requires
 chunk-start-requires c κs = search needs
 
-slice-aggregate-put-last : tie.Need-slice-aggregate-put-last
-slice-aggregate-put-last c = search needs
+slice-aggregate-put-fours : tie.Need-slice-aggregate-put-fours
+slice-aggregate-put-fours c = search needs
 
-put-last-requires : tie.Need-put-last-requires
-put-last-requires c κs = search needs
+put-fours-requires : tie.Need-put-fours-requires
+put-fours-requires c κs = search needs
 
 slice-aggregate-put8 : tie.Need-slice-aggregate-put8
 slice-aggregate-put8 c = search needs
@@ -38,11 +38,11 @@ slice-aggregate-put8-2 c = search needs
 put8-requires-2 : tie.Need-put8-requires-2
 put8-requires-2 c κs = search needs
 
-slice-aggregate-put-last-2 : tie.Need-slice-aggregate-put-last-2
-slice-aggregate-put-last-2 c = search needs
+slice-aggregate-put-fours-2 : tie.Need-slice-aggregate-put-fours-2
+slice-aggregate-put-fours-2 c = search needs
 
-put-last-requires-2 : tie.Need-put-last-requires-2
-put-last-requires-2 c κs = search needs
+put-fours-requires-2 : tie.Need-put-fours-requires-2
+put-fours-requires-2 c κs = search needs
 
 returns : tie.Need-returns
 returns c =
@@ -52,8 +52,8 @@ returns c =
     let back12 = back10 .before .before in
     let back14 = back12 .before .before in
     let back17 = back14 .before .before .before in
-    state-is (back17 .before .before .before .before .args .s) (back17 .state-marks .ensures) (back12 .chunk-start .ensures) (back14 .put .ensures) (back10 .put-last .ensures)
-    (back7 .put8 .ensures) (back4 .put82 .ensures) (c .before .put-last2 .ensures)
+    state-is (back17 .before .before .before .before .args .s) (back17 .state-marks .ensures) (back12 .chunk-start .ensures) (back14 .put .ensures) (back10 .put-fours .ensures)
+    (back7 .put8 .ensures) (back4 .put82 .ensures) (c .before .put-fours2 .ensures)
 
 pub write-state-spec : {M : Type 1} → statement M
 write-state-spec =
@@ -64,12 +64,12 @@ write-state-spec =
     slice-aggregate-put-2
     put-requires
     chunk-start-requires
-    slice-aggregate-put-last
-    put-last-requires
+    slice-aggregate-put-fours
+    put-fours-requires
     slice-aggregate-put8
     put8-requires
     slice-aggregate-put8-2
     put8-requires-2
-    slice-aggregate-put-last-2
-    put-last-requires-2
+    slice-aggregate-put-fours-2
+    put-fours-requires-2
     returns)

@@ -1,13 +1,13 @@
--- `littleendian::put_last` meets its contract: four words after one another in 16 bytes, which then go to their place.
+-- `littleendian::put_fours` meets its contract: four words after one another in 16 bytes, which then go to their place.
 -- Assumes nothing.
 use Prim.Native.Nat.{ℕ}
 use mathlib.Core.List.{List}
 use mathlib.Core.Path.{ap, _∙_}
 use borrow.Author.Needs.{needs}
 use Rattle.copies.specs.Parts.{putAt}
-use Rattle.littleendian.specs.Puts.{last-is}
-use Rattle.littleendian.proofs.put_last.Statement.{statement}
-use Rattle.littleendian.proofs.put_last.Tie as tie
+use Rattle.littleendian.specs.Puts.{fours-is}
+use Rattle.littleendian.proofs.put_fours.Statement.{statement}
+use Rattle.littleendian.proofs.put_fours.Tie as tie
 
 slice-aggregate-put4 : tie.Need-slice-aggregate-put4
 slice-aggregate-put4 c = search needs
@@ -63,10 +63,10 @@ returns c =
     let back18 = back15 .before .before .before in
     let a = back18 .args in
     c .before .before .put .ensures
-    ∙ ap (λ (l : List ℕ). putAt (a .out .now) (a .at) l) (last-is (a .t3) (back15 .put4 .ensures) (back12 .put42 .ensures) (back9 .put43 .ensures) (back6 .put44 .ensures))
+    ∙ ap (λ (l : List ℕ). putAt (a .out .now) (a .at) l) (fours-is (a .t3) (back15 .put4 .ensures) (back12 .put42 .ensures) (back9 .put43 .ensures) (back6 .put44 .ensures))
 
-pub put-last-spec : {M : Type 1} → statement M
-put-last-spec =
+pub put-fours-spec : {M : Type 1} → statement M
+put-fours-spec =
     tie.close
     (tie.spec
     slice-aggregate-put4

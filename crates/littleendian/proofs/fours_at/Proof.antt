@@ -1,10 +1,10 @@
--- `littleendian::last_at` meets its contract: four numbers, one after another.
+-- `littleendian::fours_at` meets its contract: four numbers, one after another.
 -- Assumes nothing.
 use mathlib.Core.Path.{refl}
 use borrow.Author.Needs.{needs}
 use Rattle.littleendian.specs.Back.{first}
-use Rattle.littleendian.proofs.last_at.Statement.{statement}
-use Rattle.littleendian.proofs.last_at.Tie as tie
+use Rattle.littleendian.proofs.fours_at.Statement.{statement}
+use Rattle.littleendian.proofs.fours_at.Tie as tie
 
 value4-at-requires : tie.Need-value4-at-requires
 value4-at-requires c κs = search needs
@@ -33,8 +33,8 @@ returns c =
     first (back2 .before .value4-at .ensures)
     (first (back2 .value4-at2 .ensures) (first (c .before .value4-at3 .ensures) (first (c .value4-at4 .ensures) refl)))
 
-pub last-at-spec : {M : Type 1} → statement M
-last-at-spec =
+pub fours-at-spec : {M : Type 1} → statement M
+fours-at-spec =
     tie.close
     (tie.spec
     value4-at-requires
