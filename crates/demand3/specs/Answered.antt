@@ -53,8 +53,8 @@ pub valid : (caps : Caps) (page : ℕ) (create : Bool) (mcda : ℕ) (rae : Bool)
     → fieldBad caps (meant page create mcda rae offset blocks) ≡ false
 unfolding fieldBad
 valid caps page create mcda rae offset blocks e m =
-    let whole : (512 * blocks) % 512 ≡ 0 = omega arith in
-    let placed : (512 * offset) % 512 ≡ 0 = omega arith in
+    let whole : (block * blocks) % block ≡ 0 = omega arith in
+    let placed : (block * offset) % block ≡ 0 = omega arith in
     rw (eq-eqb _ 0 whole, e, eq-eqb _ 0 placed, lt-leb 5 mcda (omega arith)) (none create (caps .mcdas))
   where
     none : (s t : Bool) → s && t && false ≡ false

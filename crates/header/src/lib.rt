@@ -10,6 +10,7 @@ ghost use lib.ListN.{length};
 ghost use Rattle.choices.specs.Choice.{firstThat};
 ghost use Rattle.copies.specs.Parts.{zeros};
 ghost use Rattle.littleendian.specs.Numbers.{foursOf};
+ghost use Rattle.pages.specs.Pages.{block};
 ghost use Rattle.header.specs.declared.Fault.the-variants.{None};
 ghost use Rattle.header.specs.Header.{numbers, marks, headerOf, fieldsOf, faultless, answerOf, faultOrder, fieldFault, noFields, checkOf};
 
@@ -96,7 +97,7 @@ pub fn write(f: Fields) -> [u8; 512]
 
 // The fields in a header's bytes, asked for as this page. Its numbers of two and three bytes are parts of numbers of four.
 fn fields_of(page: u8, h: &[u8]) -> Fields
-    requires { ⌜ length (now h) ≡ 512 ⌝ }
+    requires { ⌜ length (now h) ≡ block ⌝ }
     ensures { λ r. ⌜ r ≡ fieldsOf page (now (h .entry)) ⌝ }
 {
     let host = page == pages::HOST;

@@ -9,6 +9,7 @@ use lib.ListN.{length, take, drop, length-take, length-drop, length-append}
 use lib.Seq.{take-take, take-append-le, drop-append-add, length-take-le}
 use Rattle.copies.specs.Parts.{zeros, length-zeros, putAt, put-next}
 use Rattle.copies.specs.Lists.{take-append, drop-append, drop-take, take-cut, drop-cut, take-zeros}
+use Rattle.pages.specs.Pages.{block}
 use Rattle.serving.specs.Serving.{lesserOf, windowOf, pageBytes}
 
 -- n of h from a on, k of s from b on, and z zeros
@@ -90,8 +91,8 @@ module _ (h t : List ℕ) (off len a n b k : ℕ) (ea : a ≡ min off (length h)
 within : (x y k : ℕ) → k ≡ min x y → k ≤ y
 within x y k e = omega arith
 
-pub window-runs : (h store : List ℕ) (size off len a n b k : ℕ) → length h ≡ 512 → size ≤ length store
-    → a ≡ lesserOf off 512 → n ≡ lesserOf len (512 - a) → b ≡ lesserOf (off - a) size → k ≡ lesserOf (len - n) (size - b)
+pub window-runs : (h store : List ℕ) (size off len a n b k : ℕ) → length h ≡ block → size ≤ length store
+    → a ≡ lesserOf off block → n ≡ lesserOf len (block - a) → b ≡ lesserOf (off - a) size → k ≡ lesserOf (len - n) (size - b)
     → runsOf h a n store b k (len - n - k) ≡ windowOf off len (h ++ take size store)
 unfolding runsOf windowOf lesserOf
 window-runs h store size off len a n b k eh hs ea en eb ek =
@@ -107,16 +108,16 @@ window-runs h store size off len a n b k eh hs ea en eb ek =
     ∙ take-take k (size - b) (drop b store) (within (len - n) (size - b) k ek)))
 
 -- blocks of the page that lie within it are the store's
-pub window-area : (h store : List ℕ) (blocks at n : ℕ) → length h ≡ 512 → 512 * blocks ≤ length store → 1 ≤ at → at + n ≤ blocks + 1
-    → windowOf (512 * at) (512 * n) (pageBytes h store blocks) ≡ take (512 * n) (drop (512 * (at - 1)) store)
+pub window-area : (h store : List ℕ) (blocks at n : ℕ) → length h ≡ block → block * blocks ≤ length store → 1 ≤ at → at + n ≤ blocks + 1
+    → windowOf (block * at) (block * n) (pageBytes h store blocks) ≡ take (block * n) (drop (block * (at - 1)) store)
 unfolding windowOf pageBytes
 window-area h store blocks at n e s p q =
-    let here = 512 * (at - 1) in
-    let size : length (take (512 * blocks) store) ≡ 512 * blocks = length-take-le (512 * blocks) store s in
-    let place : 512 * at ≡ length h + here = omega arith in
-    let left : length (drop here (take (512 * blocks) store)) ≡ 512 * blocks - here = length-drop here (take (512 * blocks) store) ∙ ap (λ (i : ℕ). i - here) size in
-    ap (λ (i : ℕ). take (512 * n) (drop i (h ++ take (512 * blocks) store) ++ zeros (512 * n))) place
-    ∙ ap (λ (l : List ℕ). take (512 * n) (l ++ zeros (512 * n))) (drop-append-add h (take (512 * blocks) store) here)
-    ∙ take-append-le (512 * n) (drop here (take (512 * blocks) store)) (zeros (512 * n)) (omega arith)
-    ∙ ap (λ (l : List ℕ). take (512 * n) l) (drop-take (512 * blocks) here store)
-    ∙ take-take (512 * n) (512 * blocks - here) (drop here store) (omega arith)
+    let here = block * (at - 1) in
+    let size : length (take (block * blocks) store) ≡ block * blocks = length-take-le (block * blocks) store s in
+    let place : block * at ≡ length h + here = omega arith in
+    let left : length (drop here (take (block * blocks) store)) ≡ block * blocks - here = length-drop here (take (block * blocks) store) ∙ ap (λ (i : ℕ). i - here) size in
+    ap (λ (i : ℕ). take (block * n) (drop i (h ++ take (block * blocks) store) ++ zeros (block * n))) place
+    ∙ ap (λ (l : List ℕ). take (block * n) (l ++ zeros (block * n))) (drop-append-add h (take (block * blocks) store) here)
+    ∙ take-append-le (block * n) (drop here (take (block * blocks) store)) (zeros (block * n)) (omega arith)
+    ∙ ap (λ (l : List ℕ). take (block * n) l) (drop-take (block * blocks) here store)
+    ∙ take-take (block * n) (block * blocks - here) (drop here store) (omega arith)

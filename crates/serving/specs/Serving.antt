@@ -50,8 +50,8 @@ window-length offset n page = simp (length-take, length-append, length-zeros) (o
 pub window-header : (header store : List ℕ) (blocks : ℕ) → length header ≡ block → windowOf 0 block (pageBytes header store blocks) ≡ header
 unfolding windowOf pageBytes
 window-header header store blocks e =
-    ap (λ (l : List ℕ). take 512 l) (append-assoc header (take (512 * blocks) store) (zeros 512))
-    ∙ take-at header (take (512 * blocks) store ++ zeros 512) 512 e
+    ap (λ (l : List ℕ). take block l) (append-assoc header (take (block * blocks) store) (zeros block))
+    ∙ take-at header (take (block * blocks) store ++ zeros block) block e
 
 -- what does not fit is not served
 pub served-not : (header store : List ℕ) (blocks offset n : ℕ) (buf : List ℕ) → ((block * blocks ≤ length store) × (n ≤ length buf) → ⊥)

@@ -8,7 +8,7 @@ ghost use mathlib.Core.Path.{_≡_};
 ghost use mathlib.Core.List.{_++_};
 ghost use Prim.Native.Nat.{_+_, _*_, _≤_};
 ghost use lib.ListN.{length, take, drop};
-ghost use Rattle.pages.specs.Pages.{perPage};
+ghost use Rattle.pages.specs.Pages.{block, perPage};
 ghost use Rattle.header.specs.Header.{headerOf};
 ghost use Rattle.records.specs.Records.{fieldsFor, blocksFor};
 ghost use Rattle.serving.specs.Serving.{Lesser, windowOf, servedInto};
@@ -40,11 +40,11 @@ fn put_runs(
 }
 
 fn put_window(header: &[u8], store: &[u8], size: usize, offset: usize, bytes: usize, buf: &mut [u8])
-    requires { ⌜ (length (now header) ≡ 512) × (size ≤ length (now store)) × (bytes ≤ length (now buf)) ⌝ }
+    requires { ⌜ (length (now header) ≡ block) × (size ≤ length (now store)) × (bytes ≤ length (now buf)) ⌝ }
     ensures { λ _. ⌜ now (buf .exit) ≡ windowOf offset bytes (now (header .entry) ++ take size (now (store .entry))) ++ drop bytes (now (buf .entry)) ⌝ }
 {
-    let a = lesser(offset, 512);
-    let n = lesser(bytes, 512 - a);
+    let a = lesser(offset, pages::BLOCK);
+    let n = lesser(bytes, pages::BLOCK - a);
     let b = lesser(offset - a, size);
     let k = lesser(bytes - n, size - b);
     put_runs(header, a, n, store, b, k, bytes - n - k, buf);

@@ -35,9 +35,9 @@ fn field_bad(caps: Caps, c: Command) -> bool
     ensures { λ r. ⌜ r ≡ fieldBad caps c ⌝ }
 {
     c.indexed
-        | (c.bytes % 512 != 0)
+        | (c.bytes % pages::BLOCK != 0)
         | (!caps.extended & (c.offset != 0))
-        | (c.offset % 512 != 0)
+        | (c.offset % pages::BLOCK != 0)
         | (c.create & caps.mcdas & (5 <= c.mcda))
 }
 

@@ -9,7 +9,7 @@ use borrow.Author.Tests.{leb-true, eqb-true}
 use Rattle.choices.specs.Choice.{pick}
 use Rattle.choices.specs.Tests.{each, or-cases, clash}
 use Rattle.answers.specs.Answers.{success, badSetup}
-use Rattle.pages.specs.Pages.{most4}
+use Rattle.pages.specs.Pages.{block, most4}
 use Rattle.words.specs.declared.Words.{Words}
 use Rattle.words.specs.declared.Command.{Command}
 use Rattle.words.specs.Words.{mostBlocks, taken, builtOf, packedOf, noWords, readOf}
@@ -52,8 +52,8 @@ meant page create mcda rae offset blocks = record {
   create = create;
   mcda = mcda;
   rae = rae;
-  bytes = 512 * blocks;
-  offset = 512 * offset;
+  bytes = block * blocks;
+  offset = block * offset;
   indexed = false;
 }
 
@@ -119,7 +119,7 @@ packed-back extended page create mcda rae offset blocks small host b few =
     let made : eqb (w % 256) 7 && eqb (w / 256 % 2) 1 ≡ create = rw (k .page-back, k .create-back) (created page create host) in
     let kept : eqb (w / 32768 % 2) 1 ≡ rae = rw (k .rae-back) (bit-back rae) in
     let long = length-back extended w blocks (b .some) (b .most) few (k .long-back) (k .short-back) in
-    let far : 512 * offset + 4294967296 * 0 ≡ 512 * offset = omega arith in
+    let far : block * offset + 4294967296 * 0 ≡ block * offset = omega arith in
     cc (k .page-back, k .mcda-back)
 
 page-two : (page : ℕ) (create : Bool) (mcda offset blocks : ℕ) → taken page create mcda offset blocks ≡ true → page ≤ 8

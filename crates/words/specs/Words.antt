@@ -10,7 +10,7 @@ use lib.Dec.{leb, eqb}
 use Rattle.choices.specs.Choice.{pick}
 use Rattle.choices.specs.Tests.{holds}
 use Rattle.answers.specs.Answers.{success, badSetup}
-use Rattle.pages.specs.Pages.{hostPage, controllerPage, telemetryPage, most4}
+use Rattle.pages.specs.Pages.{hostPage, controllerPage, telemetryPage, block, most4}
 use Rattle.words.specs.declared.Words.{Words}
 use Rattle.words.specs.declared.Command.{Command}
 use Rattle.words.specs.declared.Built.{Built}
@@ -75,7 +75,7 @@ abbrev pub packedOf : ℕ → Bool → ℕ → Bool → ℕ → ℕ → Words
 packedOf page create mcda rae offset blocks = record {
   cdw10 = page + pick create 256 0 + 512 * mcda + pick rae 32768 0 + 65536 * ((128 * blocks - 1) % 65536);
   cdw11 = (128 * blocks - 1) / 65536;
-  cdw12 = 512 * offset;
+  cdw12 = block * offset;
   cdw13 = 0;
   cdw14 = 0;
 }
