@@ -15,8 +15,12 @@ fn decimal(n: u64) {
     io::print_decimal(STDOUT_FILENO, n);
 }
 
+fn letter(c: u8) {
+    say(&[c]);
+}
+
 fn byte(b: u8) {
-    say(b" ");
+    letter(b' ');
     decimal(b as u64);
 }
 
@@ -37,17 +41,22 @@ fn fresh(four: bool) -> Record {
     )
 }
 
+fn fill(bytes: &mut [u8; 4608], place: usize, v: u8) {
+    copies::put(&[v; 512], bytes, place);
+}
+
 // Nine blocks, block i filled with i.
-fn nine(bytes: &mut [u8; 4608]) {
-    copies::put(&[1; 512], bytes, 0);
-    copies::put(&[2; 512], bytes, 512);
-    copies::put(&[3; 512], bytes, 1024);
-    copies::put(&[4; 512], bytes, 1536);
-    copies::put(&[5; 512], bytes, 2048);
-    copies::put(&[6; 512], bytes, 2560);
-    copies::put(&[7; 512], bytes, 3072);
-    copies::put(&[8; 512], bytes, 3584);
-    copies::put(&[9; 512], bytes, 4096);
+fn nine() -> [u8; 4608] {
+    let mut bytes = [1; 4608];
+    fill(&mut bytes, 512, 2);
+    fill(&mut bytes, 1024, 3);
+    fill(&mut bytes, 1536, 4);
+    fill(&mut bytes, 2048, 5);
+    fill(&mut bytes, 2560, 6);
+    fill(&mut bytes, 3072, 7);
+    fill(&mut bytes, 3584, 8);
+    fill(&mut bytes, 4096, 9);
+    bytes
 }
 
 // The answer and its class; then, of the record, the host generation, the third last block of 07h, the controller generation, TCDA
@@ -72,7 +81,7 @@ fn show(x: Answered) -> Record {
 }
 
 fn third(n: u32) {
-    say(b" ");
+    letter(b' ');
     decimal(n as u64);
 }
 
@@ -83,7 +92,7 @@ fn ends(buf: &[u8; 1024]) {
     byte(buf[511]);
     byte(buf[512]);
     byte(buf[1023]);
-    say(b"\n");
+    letter(b'\n');
 }
 
 fn words(cdw10: u32, cdw12: u32, cdw13: u32, cdw14: u32) -> Words {
@@ -97,11 +106,10 @@ fn words(cdw10: u32, cdw12: u32, cdw13: u32, cdw14: u32) -> Words {
 }
 
 // A command with the candidate (2,2,5,9) and a buffer of 1,024 bytes of 200.
-fn send_with(
+fn send(
     r: Record,
     host: &mut [u8; 4608],
     controller: &[u8; 4608],
-    bytes: &[u8; 4608],
     reason: &[u8],
     w: Words,
 ) -> Record {
@@ -111,7 +119,7 @@ fn send_with(
         host,
         controller,
         [2, 2, 5, 9],
-        bytes,
+        &nine(),
         reason,
         w,
         &mut buf,
@@ -120,88 +128,76 @@ fn send_with(
     next
 }
 
-fn send(r: Record, host: &mut [u8; 4608], controller: &[u8; 4608], w: Words) -> Record {
-    let mut bytes = [0; 4608];
-    nine(&mut bytes);
-    send_with(r, host, controller, &bytes, &[77; 128], w)
+// The same while 08h has never been captured.
+fn send_words(r: Record, host: &mut [u8; 4608], w: Words) -> Record {
+    send(r, host, &[0; 4608], &[77; 128], w)
+}
+
+fn to_host(r: Record, host: &mut [u8; 4608], cdw10: u32, offset: u32) -> Record {
+    send_words(r, host, words(cdw10, offset, 0, 0))
 }
 
 // The same with a candidate whose reason is a byte short.
-fn send_broken(r: Record, host: &mut [u8; 4608], controller: &[u8; 4608], w: Words) -> Record {
-    let mut bytes = [0; 4608];
-    nine(&mut bytes);
-    send_with(r, host, controller, &bytes, &[77; 127], w)
+fn broken_to_host(r: Record, host: &mut [u8; 4608], cdw10: u32, offset: u32) -> Record {
+    send(r, host, &[0; 4608], &[77; 127], words(cdw10, offset, 0, 0))
 }
 
-fn capture_with(
-    r: Record,
-    host: &[u8; 4608],
-    controller: &mut [u8; 4608],
-    a: [u32; 4],
-    bytes: &[u8; 4608],
-) -> Record {
-    let next = show(controller::capture(r, host, controller, a, bytes, &[78; 128]));
-    say(b"\n");
+// A command while 07h has never been captured.
+fn to_controller(r: Record, controller: &[u8; 4608], cdw10: u32, offset: u32) -> Record {
+    send(
+        r,
+        &mut [0; 4608],
+        controller,
+        &[77; 128],
+        words(cdw10, offset, 0, 0),
+    )
+}
+
+fn capture(r: Record, controller: &mut [u8; 4608], a: [u32; 4]) -> Record {
+    let next = show(controller::capture(r, &[0; 4608], controller, a, &nine(), &[78; 128]));
+    letter(b'\n');
     next
-}
-
-fn capture(r: Record, host: &[u8; 4608], controller: &mut [u8; 4608], a: [u32; 4]) -> Record {
-    let mut bytes = [0; 4608];
-    nine(&mut bytes);
-    capture_with(r, host, controller, a, &bytes)
 }
 
 fn on_host() {
     let mut host = [0; 4608];
-    let controller = [0; 4608];
     say(b"07h: create with candidate (2,2,5,9) on a drive of three areas\n");
-    let r = send(
-        fresh(false),
-        &mut host,
-        &controller,
-        words(0x00ff8107, 0, 0, 0),
-    );
+    let r = to_host(fresh(false), &mut host, 0x00ff8107, 0);
     say(
         b"offset 2,560, 1,024 bytes; offset 3,072, 512 bytes; offset 3,584; offset 256; count 126; offset 2^32\n",
     );
-    send(r, &mut host, &controller, words(0x00ff8007, 2560, 0, 0));
-    send(r, &mut host, &controller, words(0x007f8007, 3072, 0, 0));
-    send(r, &mut host, &controller, words(0x007f8007, 3584, 0, 0));
-    send(r, &mut host, &controller, words(0x007f8007, 256, 0, 0));
-    send(r, &mut host, &controller, words(0x007e8007, 0, 0, 0));
-    send(r, &mut host, &controller, words(0x007f8007, 0, 1, 0));
+    to_host(r, &mut host, 0x00ff8007, 2560);
+    to_host(r, &mut host, 0x007f8007, 3072);
+    to_host(r, &mut host, 0x007f8007, 3584);
+    to_host(r, &mut host, 0x007f8007, 256);
+    to_host(r, &mut host, 0x007e8007, 0);
+    send_words(r, &mut host, words(0x007f8007, 0, 1, 0));
     say(b"offset type 1; RAE 0 on 07h; create bit on 08h\n");
-    send(
-        r,
-        &mut host,
-        &controller,
-        words(0x007f8007, 0, 0, 0x00800000),
-    );
-    send(r, &mut host, &controller, words(0x007f0007, 512, 0, 0));
-    send(r, &mut host, &controller, words(0x007f8108, 0, 0, 0));
+    send_words(r, &mut host, words(0x007f8007, 0, 0, 0x00800000));
+    to_host(r, &mut host, 0x007f0007, 512);
+    to_host(r, &mut host, 0x007f8108, 0);
     say(b"identifiers 02h, 0Eh, 24h, C0h\n");
-    send(r, &mut host, &controller, words(0x007f8002, 0, 0, 0));
-    send(r, &mut host, &controller, words(0x007f800e, 0, 0, 0));
-    send(r, &mut host, &controller, words(0x007f8024, 0, 0, 0));
-    send(r, &mut host, &controller, words(0x007f80c0, 0, 0, 0));
+    to_host(r, &mut host, 0x007f8002, 0);
+    to_host(r, &mut host, 0x007f800e, 0);
+    to_host(r, &mut host, 0x007f8024, 0);
+    to_host(r, &mut host, 0x007f80c0, 0);
 }
 
 fn orders() {
     let mut host = [0; 4608];
-    let controller = [0; 4608];
     let r = fresh(true);
     say(
         b"broken candidate with offset 256: 1; with offset 5,632: 5; whole candidate with offset 5,632: 1; 2,048 bytes: 3; MCDA 5: 1\n",
     );
-    send_broken(r, &mut host, &controller, words(0x007f8107, 256, 0, 0));
-    send_broken(r, &mut host, &controller, words(0x007f8107, 5632, 0, 0));
-    send(r, &mut host, &controller, words(0x007f8107, 5632, 0, 0));
-    send(r, &mut host, &controller, words(0x01ff8107, 0, 0, 0));
-    send(r, &mut host, &controller, words(0x007f8b07, 0, 0, 0));
+    broken_to_host(r, &mut host, 0x007f8107, 256);
+    broken_to_host(r, &mut host, 0x007f8107, 5632);
+    to_host(r, &mut host, 0x007f8107, 5632);
+    to_host(r, &mut host, 0x01ff8107, 0);
+    to_host(r, &mut host, 0x007f8b07, 0);
     say(b"offset 5,120, the new page's size, is served; MCDA 2 sizes it 1,536\n");
-    send(r, &mut host, &controller, words(0x007f8107, 5120, 0, 0));
-    send(r, &mut host, &controller, words(0x007f8507, 1536, 0, 0));
-    send(r, &mut host, &controller, words(0x007f8507, 2048, 0, 0));
+    to_host(r, &mut host, 0x007f8107, 5120);
+    to_host(r, &mut host, 0x007f8507, 1536);
+    to_host(r, &mut host, 0x007f8507, 2048);
     say(b"a scope of 3 disagrees, before the identifier is looked at\n");
     let caps = r.caps;
     let identity = Identity {
@@ -209,36 +205,25 @@ fn orders() {
         hostscope: 3,
         controllerscope: 1,
     };
-    send(
-        records::fresh(caps, identity),
-        &mut host,
-        &controller,
-        words(0x007f8002, 0, 0, 0),
-    );
+    to_host(records::fresh(caps, identity), &mut host, 0x007f8002, 0);
 }
 
 fn on_controller() {
-    let mut host = [0; 4608];
     let mut controller = [0; 4608];
     say(b"08h before any capture: the header; a capture; broken: a3 = 0, a2 > a3\n");
-    let r = send(
-        fresh(true),
-        &mut host,
-        &controller,
-        words(0x007f8008, 0, 0, 0),
-    );
-    let r = capture(r, &host, &mut controller, [2, 2, 5, 9]);
-    capture(r, &host, &mut controller, [0, 0, 0, 0]);
-    capture(r, &host, &mut controller, [2, 6, 5, 9]);
+    let r = to_controller(fresh(true), &controller, 0x007f8008, 0);
+    let r = capture(r, &mut controller, [2, 2, 5, 9]);
+    capture(r, &mut controller, [0, 0, 0, 0]);
+    capture(r, &mut controller, [2, 6, 5, 9]);
     say(b"blocks 1 and 2 with RAE 1; a refused command with RAE 0; blocks 8 and 9 with RAE 0\n");
-    let r = send(r, &mut host, &controller, words(0x00ff8008, 512, 0, 0));
-    let r = send(r, &mut host, &controller, words(0x00ff0008, 256, 0, 0));
-    let r = send(r, &mut host, &controller, words(0x00ff0008, 4096, 0, 0));
+    let r = to_controller(r, &controller, 0x00ff8008, 512);
+    let r = to_controller(r, &controller, 0x00ff0008, 256);
+    let r = to_controller(r, &controller, 0x00ff0008, 4096);
     say(b"cleared: offset 512 gives zeros, offset 1,024 is 1\n");
-    let r = send(r, &mut host, &controller, words(0x007f8008, 512, 0, 0));
-    let r = send(r, &mut host, &controller, words(0x007f8008, 1024, 0, 0));
+    let r = to_controller(r, &controller, 0x007f8008, 512);
+    let r = to_controller(r, &controller, 0x007f8008, 1024);
     say(b"another capture\n");
-    capture(r, &host, &mut controller, [2, 2, 5, 9]);
+    capture(r, &mut controller, [2, 2, 5, 9]);
 }
 
 fn main() {

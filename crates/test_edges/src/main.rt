@@ -4,16 +4,52 @@
 // stdout beside src/ has the table of these runs.
 use collection::Collection;
 use collection::Next;
-use collection::Stepped;
+use controller::Answered;
 use libc::STDOUT_FILENO;
 use pages::Caps;
 use plans::Phase;
 use plans::Plan;
 use records::Identity;
 use records::Record;
+use words::Command;
 use words::Words;
 
-// A run: the controller's record, the collection, what it said last, and the answer of its ending, which is 255 before.
+// The most commands of a run: what comes before this one never happens.
+const NEVER: u32 = 16;
+
+// The first words of another host's create on 07h and of its acknowledgement of 08h, both of one block.
+const CREATE: u32 = 0x007f8107;
+
+const ACKNOWLEDGE: u32 = 0x007f0008;
+
+// What a capture takes: area 1 ends at block `area`, all others at `page`, filled from `v` on.
+struct Content {
+    area: u32,
+    page: u32,
+    v: u8,
+}
+
+// What is collected, and what happens meanwhile. Commands are counted from 0.
+struct Case {
+    page: u8,
+    // At first the page is captured once, or not at all: area 1 ends at `blocks`, all others at `top`.
+    generation: u8,
+    once: u32,
+    blocks: u32,
+    top: u32,
+    // The plan's.
+    chunk: u32,
+    attempts: u32,
+    // Another host acknowledges 08h before this command.
+    cleared: u32,
+    // The page is captured before these commands, so many times, and then all areas end at `then`.
+    captured: u32,
+    again: u32,
+    times: u32,
+    then: u32,
+}
+
+// The controller's record, the collection, and the answer of its ending, which is 255 before.
 struct Bench {
     own: Record,
     state: Collection,
@@ -22,6 +58,10 @@ struct Bench {
 
 fn say(text: &[u8]) {
     io::write_all(STDOUT_FILENO, text);
+}
+
+fn letter(c: u8) {
+    say(&[c]);
 }
 
 fn decimal(n: u64) {
@@ -38,28 +78,34 @@ fn caps() -> Caps {
     }
 }
 
-// A page's area 1 in chunks of so many blocks, into a copy of four.
-fn plan(page: u8, chunk: u32, attempts: u32) -> Plan {
+// Area 1 into a copy of four blocks.
+fn plan(case: Case) -> Plan {
     Plan {
-        page,
+        page: case.page,
         create: false,
         area: 1,
-        chunk,
-        attempts,
+        chunk: case.chunk,
+        attempts: case.attempts,
         room: 2048,
         caps: caps(),
     }
 }
 
-// Five blocks, the first filled with `v` and each one after it with one more.
-fn five(v: u8) -> [u8; 2560] {
-    let mut bytes = [0u8; 2560];
-    copies::put(&[v; 512], &mut bytes, 0);
-    copies::put(&[std::num::wrapping_add_u8(v, 1); 512], &mut bytes, 512);
-    copies::put(&[std::num::wrapping_add_u8(v, 2); 512], &mut bytes, 1024);
-    copies::put(&[std::num::wrapping_add_u8(v, 3); 512], &mut bytes, 1536);
-    copies::put(&[std::num::wrapping_add_u8(v, 4); 512], &mut bytes, 2048);
-    bytes
+// A record whose pages are one generation before the case's, so that the first capture reaches it.
+fn fresh(case: Case) -> Record {
+    let identity = Identity {
+        oui: 0x123456,
+        hostscope: 1,
+        controllerscope: 1,
+    };
+    let mut r = records::fresh(caps(), identity);
+    let mut host = r.host;
+    let mut controller = r.controller;
+    host.generation = std::num::wrapping_sub_u8(case.generation, 1);
+    controller.generation = host.generation;
+    r.host = host;
+    r.controller = controller;
+    r
 }
 
 // The first of some bytes, or all of them if they are fewer.
@@ -76,99 +122,124 @@ fn first_blocks(bytes: &[u8], blocks: u32) -> &[u8] {
 
 // ---- what happens between the run's commands
 
-// Another host's create on 07h: area 1 ends at block `b`, all others at `top`, filled from `v` on.
-fn create(r: Record, host: &mut [u8; 2560], b: u32, top: u32, v: u8) -> Record {
-    let bytes = five(v);
-    let mut buf = [0u8; 512];
+fn fill(bytes: &mut [u8; 2560], place: usize, v: u8) {
+    copies::put(&[v; 512], bytes, place);
+}
+
+// Five blocks, the first filled with `v` and each one after it with one more.
+fn five(v: u8) -> [u8; 2560] {
+    let mut bytes = [v; 2560];
+    fill(&mut bytes, 512, std::num::wrapping_add_u8(v, 1));
+    fill(&mut bytes, 1024, std::num::wrapping_add_u8(v, 2));
+    fill(&mut bytes, 1536, std::num::wrapping_add_u8(v, 3));
+    fill(&mut bytes, 2048, std::num::wrapping_add_u8(v, 4));
+    bytes
+}
+
+// A command with a candidate. A run has to do with one page alone, so both have the same store.
+fn send(
+    r: Record,
+    store: &mut [u8; 2560],
+    last: [u32; 4],
+    bytes: &[u8],
+    words: Words,
+    buf: &mut [u8],
+) -> Answered {
+    let same = *store;
+    controller::command(r, store, &same, last, bytes, &[1; 128], words, buf)
+}
+
+// Another host's command of one block.
+fn other(r: Record, store: &mut [u8; 2560], last: [u32; 4], bytes: &[u8], cdw10: u32) -> Record {
     let words = Words {
-        cdw10: 0x007f8107,
+        cdw10,
         cdw11: 0,
         cdw12: 0,
         cdw13: 0,
         cdw14: 0,
     };
-    let x = controller::command(
-        r,
-        host,
-        &[0u8; 2560],
-        [b, top, top, top],
-        first_blocks(&bytes, top),
-        &[v; 128],
-        words,
-        &mut buf,
-    );
-    x.own
-}
-
-// The controller's own capture on 08h.
-fn capture(r: Record, controller: &mut [u8; 2560], b: u32, top: u32, v: u8) -> Record {
-    let bytes = five(v);
-    let x = controller::capture(
-        r,
-        &[0u8; 2560],
-        controller,
-        [b, top, top, top],
-        first_blocks(&bytes, top),
-        &[v; 128],
-    );
-    x.own
-}
-
-// Another host's acknowledgement of 08h.
-fn clear(r: Record, controller: &[u8; 2560]) -> Record {
     let mut buf = [0u8; 512];
-    let words = Words {
-        cdw10: 0x007f0008,
-        cdw11: 0,
-        cdw12: 0,
-        cdw13: 0,
-        cdw14: 0,
-    };
-    let x = controller::command(
-        r,
-        &mut [0u8; 2560],
-        controller,
-        [0; 4],
-        b"",
-        b"",
-        words,
-        &mut buf,
-    );
+    let x = send(r, store, last, bytes, words, &mut buf);
     x.own
+}
+
+// A capture on a page: another host's create on 07h, or the controller's own on 08h.
+fn capture(page: u8, c: Content, r: Record, store: &mut [u8; 2560]) -> Record {
+    let five = five(c.v);
+    let last = [c.area, c.page, c.page, c.page];
+    let bytes = first_blocks(&five, c.page);
+    if page == pages::HOST {
+        return other(r, store, last, bytes, CREATE);
+    }
+    let x = controller::capture(r, b"", store, last, bytes, &[1; 128]);
+    x.own
+}
+
+// So many captures in a row.
+fn captures(times: u32, page: u8, c: Content, r: Record, store: &mut [u8; 2560]) -> Record {
+    let mut own = r;
+    for _ in 0..times {
+        own = capture(page, c, own, store);
+    }
+    own
+}
+
+// Another host's acknowledgement of 08h, or nothing.
+fn cleared(go: bool, r: Record, store: &mut [u8; 2560]) -> Record {
+    if go {
+        return other(r, store, [0; 4], b"", ACKNOWLEDGE);
+    }
+    r
+}
+
+// How many captures come before a command.
+fn captures_before(case: Case, at: u32) -> u32 {
+    if (at == case.captured) | (at == case.again) {
+        return case.times;
+    }
+    0
+}
+
+// What happens before a command: an acknowledgement, and then captures.
+fn meanwhile(case: Case, at: u32, r: Record, store: &mut [u8; 2560]) -> Record {
+    let own = cleared(at == case.cleared, r, store);
+    let content = Content {
+        area: case.then,
+        page: case.then,
+        v: 30,
+    };
+    captures(captures_before(case, at), case.page, content, own, store)
 }
 
 // ---- a command of the run
 
 fn name(phase: Phase) {
+    letter(b' ');
     match phase {
-        Phase::First => say(b" H"),
+        Phase::First => letter(b'H'),
         Phase::Chunk(at) => {
-            say(b" c");
+            letter(b'c');
             decimal(at as u64);
         }
-        Phase::Close(_) => say(b" h"),
-        Phase::Ack => say(b" A"),
+        Phase::Close(_) => letter(b'h'),
+        Phase::Ack => letter(b'A'),
         Phase::Ended => (),
     }
 }
 
-// A header that is judged.
-fn is_check(phase: Phase) -> bool {
-    match phase {
-        Phase::First => true,
-        Phase::Chunk(_) => false,
-        Phase::Close(_) => true,
-        Phase::Ack => false,
-        Phase::Ended => false,
+// At a header that is judged, the wanted copy: the page's area 1 as it stands, then zeros.
+fn keep_area(asked: Command, r: Record, store: &[u8], want: &mut [u8]) {
+    if asked.rae & (asked.offset == 0) {
+        let f = records::fields(asked.page, r);
+        let last = f.last;
+        copies::put_zeros(2048, want, 0);
+        copies::put(first_blocks(store, last[0]), want, 0);
     }
 }
 
-// The wanted area of a page as it stands, then zeros.
-fn keep_area(page: u8, r: Record, store: &[u8], want: &mut [u8; 2048]) {
-    let f = records::fields(page, r);
-    let last = f.last;
-    copies::put_zeros(2048, want, 0);
-    copies::put(first_blocks(store, last[0]), want, 0);
+fn column(n: u64) {
+    say(b" | ");
+    decimal(n);
 }
 
 // What the step said: the answer of an ending, 254 for a refused step, or 255 while the run goes on.
@@ -177,109 +248,88 @@ fn said(next: Next) -> u8 {
         Next::Send(_) => 255,
         Next::End(e) => {
             let ending = e.ending;
-            say(b" | ");
-            decimal(judgement::number(ending) as u64);
+            let answer = judgement::number(ending);
+            column(answer as u64);
             if judgement::newer(ending) {
                 say(b" newer");
             }
-            say(b" | ");
-            decimal(e.count);
-            judgement::number(ending)
+            column(e.count);
+            answer
         }
         Next::Refuse(_) => 254,
     }
 }
 
-// The completion of a command whose first bytes are the data.
-fn complete(state: Collection, own: Record, answer: u8, data: &[u8], copy: &mut [u8]) -> Bench {
+// How many bytes a completion brings: all that were asked for, or none, and a !, where the controller refused.
+fn brought(answer: u8, bytes: usize) -> usize {
     if answer == 0 {
-        return stepped(own, state.step(true, data, copy));
+        return bytes;
     }
-    say(b"!");
-    stepped(own, state.step(false, b"", copy))
+    letter(b'!');
+    0
 }
 
-fn stepped(own: Record, x: Stepped) -> Bench {
+fn complete(own: Record, state: Collection, ok: bool, data: &[u8], copy: &mut [u8]) -> Bench {
+    let x = state.step(ok, data, copy);
     let next = x.next;
     let state = x.state;
     let answer = said(next);
     Bench { own, state, answer }
 }
 
-// The awaited command goes to the controller and its completion to the collection; after the ending nothing happens.
-fn own(
-    b: Bench,
-    host: &mut [u8; 2560],
-    controller: &[u8; 2560],
+// The awaited command goes to the controller and its completion to the collection.
+fn sent(
+    own: Record,
+    state: Collection,
+    store: &mut [u8; 2560],
     copy: &mut [u8; 2048],
     want: &mut [u8; 2048],
 ) -> Bench {
-    if b.answer != 255 {
-        return b;
-    }
-    let state = b.state;
     let phase = state.phase;
-    let asked = words::read(true, state.awaited());
+    let words = state.awaited();
+    let asked = words::read(true, words);
     let mut buf = [0u8; 2560];
     name(phase);
-    let x = controller::command(
-        b.own,
-        host,
-        controller,
-        [0; 4],
-        b"",
-        b"",
-        state.awaited(),
-        &mut buf,
-    );
-    let own = x.own;
-    if is_check(phase) {
-        if asked.page == pages::HOST {
-            keep_area(pages::HOST, own, host, want);
-        } else {
-            keep_area(pages::CONTROLLER, own, controller, want);
+    keep_area(asked, own, store, want);
+    let x = send(own, store, [0; 4], b"", words, &mut buf);
+    let bytes = brought(x.answer, asked.bytes);
+    complete(x.own, state, x.answer == 0, front(&buf, bytes), copy)
+}
+
+// A command with what happens before it.
+fn turn(
+    case: Case,
+    at: u32,
+    b: Bench,
+    store: &mut [u8; 2560],
+    copy: &mut [u8; 2048],
+    want: &mut [u8; 2048],
+) -> Bench {
+    let own = meanwhile(case, at, b.own, store);
+    sent(own, b.state, store, copy, want)
+}
+
+// The commands of a run, up to its ending, and the ending's answer.
+fn turns(
+    case: Case,
+    start: Bench,
+    store: &mut [u8; 2560],
+    copy: &mut [u8; 2048],
+    want: &mut [u8; 2048],
+) -> u8 {
+    let mut b = start;
+    for at in 0..NEVER {
+        if b.answer != 255 {
+            return b.answer;
         }
+        b = turn(case, at, b, store, copy, want);
     }
-    complete(state, own, x.answer, front(&buf, asked.bytes), copy)
-}
-
-fn own_if(
-    go: bool,
-    b: Bench,
-    host: &mut [u8; 2560],
-    controller: &[u8; 2560],
-    copy: &mut [u8; 2048],
-    want: &mut [u8; 2048],
-) -> Bench {
-    if go {
-        return own(b, host, controller, copy, want);
-    }
-    b
-}
-
-// So many commands, nine at most.
-fn some(
-    n: u32,
-    b: Bench,
-    host: &mut [u8; 2560],
-    controller: &[u8; 2560],
-    copy: &mut [u8; 2048],
-    want: &mut [u8; 2048],
-) -> Bench {
-    let b1 = own_if(1 <= n, b, host, controller, copy, want);
-    let b2 = own_if(2 <= n, b1, host, controller, copy, want);
-    let b3 = own_if(3 <= n, b2, host, controller, copy, want);
-    let b4 = own_if(4 <= n, b3, host, controller, copy, want);
-    let b5 = own_if(5 <= n, b4, host, controller, copy, want);
-    let b6 = own_if(6 <= n, b5, host, controller, copy, want);
-    let b7 = own_if(7 <= n, b6, host, controller, copy, want);
-    let b8 = own_if(8 <= n, b7, host, controller, copy, want);
-    own_if(9 <= n, b8, host, controller, copy, want)
+    b.answer
 }
 
 // The end of a line: whether the copy is what the ending promises.
-fn end(b: Bench, copy: &[u8; 2048], want: &[u8; 2048]) {
-    if b.answer == 0 {
+fn end(answer: u8, copy: &[u8; 2048], want: &[u8; 2048]) {
+    if answer == 0 {
         if check::same(copy, want) {
             say(b" | the area, then zeros\n");
         } else {
@@ -294,10 +344,15 @@ fn end(b: Bench, copy: &[u8; 2048], want: &[u8; 2048]) {
     }
 }
 
-fn begin(label: &[u8], own: Record, p: Plan) -> Bench {
-    let x = collection::setup(p);
+fn begin(case: Case, store: &mut [u8; 2560]) -> Bench {
+    let content = Content {
+        area: case.blocks,
+        page: case.top,
+        v: 10,
+    };
+    let own = captures(case.once, case.page, content, fresh(case), store);
+    let x = collection::setup(plan(case));
     let state = x.state;
-    say(label);
     Bench {
         own,
         state,
@@ -305,323 +360,133 @@ fn begin(label: &[u8], own: Record, p: Plan) -> Bench {
     }
 }
 
-fn with_drive(b: Bench, own: Record) -> Bench {
-    let state = b.state;
-    Bench {
-        own,
-        state,
-        answer: b.answer,
+fn run(label: &[u8], case: Case) {
+    let mut store = [0u8; 2560];
+    let mut copy = [9u8; 2048];
+    let mut want = [7u8; 2048];
+    say(label);
+    let b = begin(case, &mut store);
+    let answer = turns(case, b, &mut store, &mut copy, &mut want);
+    end(answer, &copy, &want);
+}
+
+// ---- the runs
+
+// A page of so many blocks, all of them in area 1, to which nothing happens.
+fn calm(page: u8, blocks: u32, chunk: u32, attempts: u32) -> Case {
+    Case {
+        page,
+        generation: 0,
+        once: 1,
+        blocks,
+        top: blocks,
+        chunk,
+        attempts,
+        cleared: NEVER,
+        captured: NEVER,
+        again: NEVER,
+        times: 1,
+        then: 2,
     }
 }
 
-fn fresh() -> Record {
-    let identity = Identity {
-        oui: 0x123456,
-        hostscope: 1,
-        controllerscope: 1,
-    };
-    records::fresh(caps(), identity)
+// 07h at a generation, a block a command, with a capture before a command.
+fn host(label: &[u8], generation: u8, blocks: u32, captured: u32, then: u32) {
+    let mut c = calm(pages::HOST, blocks, 1, 2);
+    c.generation = generation;
+    c.captured = captured;
+    c.then = then;
+    run(label, c);
 }
 
-// ---- 07h
-
-// A controller whose 07h is at a generation, with blocks filled from 10 on.
-fn host_drive(generation: u8, blocks: u32, host: &mut [u8; 2560]) -> Record {
-    let mut r = fresh();
-    let mut page = r.host;
-    page.generation = std::num::wrapping_sub_u8(generation, 1);
-    r.host = page;
-    create(r, host, blocks, blocks, 10)
+// 08h in one attempt, acknowledged by another host before a command.
+fn acknowledged(label: &[u8], blocks: u32, chunk: u32, cleared: u32) {
+    let mut c = calm(pages::CONTROLLER, blocks, chunk, 1);
+    c.cleared = cleared;
+    run(label, c);
 }
 
-// A create of another host before the next command, filled from 30 on.
-fn created(b: Bench, host: &mut [u8; 2560], blocks: u32) -> Bench {
-    let own = create(b.own, host, blocks, blocks, 30);
-    with_drive(b, own)
+// 08h at a generation, a block a command, acknowledged by another host before a command and captured before one.
+fn controller(label: &[u8], generation: u8, blocks: u32, cleared: u32, captured: u32) {
+    let mut c = calm(pages::CONTROLLER, blocks, 1, 2);
+    c.generation = generation;
+    c.cleared = cleared;
+    c.captured = captured;
+    run(label, c);
 }
 
-fn four(b: Bench, host: &mut [u8; 2560]) -> Bench {
-    created(
-        created(created(created(b, host, 2), host, 2), host, 2),
-        host,
-        2,
-    )
+fn calm_runs() {
+    run(b"07h, 3 blocks, 2 a command:", calm(pages::HOST, 3, 2, 1));
+    run(b"07h, no block:", calm(pages::HOST, 0, 2, 1));
+    let mut c = calm(pages::CONTROLLER, 0, 1, 1);
+    c.top = 3;
+    run(b"08h, no block in area 1:", c);
+    c.once = 0;
+    run(b"08h never captured:", c);
 }
 
-fn sixteen(b: Bench, host: &mut [u8; 2560]) -> Bench {
-    four(four(four(four(b, host), host), host), host)
-}
-
-fn sixty_four(b: Bench, host: &mut [u8; 2560]) -> Bench {
-    sixteen(sixteen(sixteen(sixteen(b, host), host), host), host)
-}
-
-// 255 creates.
-fn many(b: Bench, host: &mut [u8; 2560]) -> Bench {
-    let c = sixty_four(sixty_four(sixty_four(b, host), host), host);
-    let d = sixteen(sixteen(sixteen(c, host), host), host);
-    let e = four(four(four(d, host), host), host);
-    created(created(created(e, host, 2), host, 2), host, 2)
-}
-
-// No capture at all.
-fn host_calm(label: &[u8], blocks: u32) {
-    let mut host = [0u8; 2560];
-    let mut copy = [9u8; 2048];
-    let mut want = [7u8; 2048];
-    let b = begin(
-        label,
-        host_drive(0, blocks, &mut host),
-        plan(pages::HOST, 2, 1),
-    );
-    let c = some(9, b, &mut host, &[0u8; 2560], &mut copy, &mut want);
-    end(c, &copy, &want);
-}
-
-// One capture after so many commands, a block a command.
-fn host_once(label: &[u8], generation: u8, blocks: u32, after: u32, then: u32) {
-    let mut host = [0u8; 2560];
-    let controller = [0u8; 2560];
-    let mut copy = [9u8; 2048];
-    let mut want = [7u8; 2048];
-    let b = begin(
-        label,
-        host_drive(generation, blocks, &mut host),
-        plan(pages::HOST, 1, 2),
-    );
-    let c = some(after, b, &mut host, &controller, &mut copy, &mut want);
-    let d = created(c, &mut host, then);
-    let e = some(9, d, &mut host, &controller, &mut copy, &mut want);
-    end(e, &copy, &want);
-}
-
-// A capture before each of the first two closing headers.
-fn host_twice(label: &[u8]) {
-    let mut host = [0u8; 2560];
-    let controller = [0u8; 2560];
-    let mut copy = [9u8; 2048];
-    let mut want = [7u8; 2048];
-    let b = begin(label, host_drive(0, 3, &mut host), plan(pages::HOST, 2, 3));
-    let c = some(3, b, &mut host, &controller, &mut copy, &mut want);
-    let d = some(
-        3,
-        created(c, &mut host, 3),
-        &mut host,
-        &controller,
-        &mut copy,
-        &mut want,
-    );
-    let e = some(
-        9,
-        created(d, &mut host, 3),
-        &mut host,
-        &controller,
-        &mut copy,
-        &mut want,
-    );
-    end(e, &copy, &want);
-}
-
-// 255 captures between two chunks, or one more.
-fn host_many(label: &[u8], one_more: bool) {
-    let mut host = [0u8; 2560];
-    let controller = [0u8; 2560];
-    let mut copy = [9u8; 2048];
-    let mut want = [7u8; 2048];
-    let b = begin(
-        label,
-        host_drive(0, 2, &mut host),
-        plan(pages::HOST, 1, 256),
-    );
-    let c = some(2, b, &mut host, &controller, &mut copy, &mut want);
-    let d = many(c, &mut host);
-    let e = if one_more {
-        created(d, &mut host, 2)
-    } else {
-        d
-    };
-    let f = some(9, e, &mut host, &controller, &mut copy, &mut want);
-    end(f, &copy, &want);
-}
-
-// ---- 08h
-
-// A controller whose 08h is at a generation, area 1 ending at block `blocks`, with `top` blocks filled from 10 on.
-fn controller_drive(generation: u8, blocks: u32, top: u32, controller: &mut [u8; 2560]) -> Record {
-    let mut r = fresh();
-    let mut page = r.controller;
-    page.generation = std::num::wrapping_sub_u8(generation, 1);
-    r.controller = page;
-    capture(r, controller, blocks, top, 10)
-}
-
-// Another host's acknowledgement before the next command.
-fn cleared(b: Bench, controller: &[u8; 2560]) -> Bench {
-    let own = clear(b.own, controller);
-    with_drive(b, own)
-}
-
-// A capture before the next command, filled from 30 on.
-fn captured(b: Bench, controller: &mut [u8; 2560], blocks: u32) -> Bench {
-    let own = capture(b.own, controller, blocks, blocks, 30);
-    with_drive(b, own)
-}
-
-// No data at all.
-fn controller_never(label: &[u8]) {
-    let mut copy = [9u8; 2048];
-    let mut want = [7u8; 2048];
-    let b = begin(label, fresh(), plan(pages::CONTROLLER, 1, 1));
-    let c = some(9, b, &mut [0u8; 2560], &[0u8; 2560], &mut copy, &mut want);
-    end(c, &copy, &want);
-}
-
-// No capture and no clearing; three blocks in areas 2 and 3.
-fn controller_calm(label: &[u8], blocks: u32) {
-    let mut controller = [0u8; 2560];
-    let mut copy = [9u8; 2048];
-    let mut want = [7u8; 2048];
-    let b = begin(
-        label,
-        controller_drive(0, blocks, 3, &mut controller),
-        plan(pages::CONTROLLER, 1, 1),
-    );
-    let c = some(9, b, &mut [0u8; 2560], &controller, &mut copy, &mut want);
-    end(c, &copy, &want);
-}
-
-// Cleared after so many commands.
-fn controller_cleared(label: &[u8], blocks: u32, chunk: u32, after: u32) {
-    let mut controller = [0u8; 2560];
-    let mut copy = [9u8; 2048];
-    let mut want = [7u8; 2048];
-    let b = begin(
-        label,
-        controller_drive(0, blocks, blocks, &mut controller),
-        plan(pages::CONTROLLER, chunk, 1),
-    );
-    let c = some(
-        after,
-        b,
-        &mut [0u8; 2560],
-        &controller,
-        &mut copy,
-        &mut want,
-    );
-    let d = some(
-        9,
-        cleared(c, &controller),
-        &mut [0u8; 2560],
-        &controller,
-        &mut copy,
-        &mut want,
-    );
-    end(d, &copy, &want);
-}
-
-// Captured after so many commands.
-fn controller_captured(label: &[u8], blocks: u32, after: u32, then: u32) {
-    let mut controller = [0u8; 2560];
-    let mut copy = [9u8; 2048];
-    let mut want = [7u8; 2048];
-    let b = begin(
-        label,
-        controller_drive(0, blocks, blocks, &mut controller),
-        plan(pages::CONTROLLER, 1, 2),
-    );
-    let c = some(
-        after,
-        b,
-        &mut [0u8; 2560],
-        &controller,
-        &mut copy,
-        &mut want,
-    );
-    let d = captured(c, &mut controller, then);
-    let e = some(9, d, &mut [0u8; 2560], &controller, &mut copy, &mut want);
-    end(e, &copy, &want);
-}
-
-// Cleared after so many commands, and captured after some more.
-fn controller_both(label: &[u8], generation: u8, blocks: u32, after: u32, more: u32, then: u32) {
-    let mut controller = [0u8; 2560];
-    let mut copy = [9u8; 2048];
-    let mut want = [7u8; 2048];
-    let b = begin(
-        label,
-        controller_drive(generation, blocks, blocks, &mut controller),
-        plan(pages::CONTROLLER, 1, 2),
-    );
-    let c = some(
-        after,
-        b,
-        &mut [0u8; 2560],
-        &controller,
-        &mut copy,
-        &mut want,
-    );
-    let d = some(
-        more,
-        cleared(c, &controller),
-        &mut [0u8; 2560],
-        &controller,
-        &mut copy,
-        &mut want,
-    );
-    let e = captured(d, &mut controller, then);
-    let f = some(9, e, &mut [0u8; 2560], &controller, &mut copy, &mut want);
-    end(f, &copy, &want);
-}
-
-fn main() {
-    host_calm(b"07h, 3 blocks, 2 a command:", 3);
-    host_calm(b"07h, no block:", 0);
-    controller_calm(b"08h, no block in area 1:", 0);
-    controller_never(b"08h never captured:");
-    host_once(b"07h grows from 1 to 5, room for 4:", 0, 1, 1, 5);
-    host_once(b"07h grows from 1 to 4:", 0, 1, 1, 4);
-    host_once(
+fn host_runs() {
+    host(b"07h grows from 1 to 5, room for 4:", 0, 1, 1, 5);
+    host(b"07h grows from 1 to 4:", 0, 1, 1, 4);
+    host(
         b"07h shrinks from 4 to 1 after a chunk, generation 255 to 0:",
         255,
         4,
         2,
         1,
     );
-    host_once(b"07h shrinks from 4 to 0:", 0, 4, 1, 0);
-    host_twice(b"07h captured before each of two closing headers:");
-    controller_cleared(b"08h cleared after the header:", 3, 1, 1);
-    controller_cleared(b"08h cleared, one chunk:", 4, 4, 1);
-    controller_both(
+    host(b"07h shrinks from 4 to 0:", 0, 4, 1, 0);
+    let mut c = calm(pages::HOST, 3, 2, 3);
+    c.captured = 3;
+    c.again = 6;
+    c.then = 3;
+    run(b"07h captured before each of two closing headers:", c);
+}
+
+fn controller_runs() {
+    acknowledged(b"08h cleared after the header:", 3, 1, 1);
+    acknowledged(b"08h cleared, one chunk:", 4, 4, 1);
+    controller(
         b"08h cleared and captured again, generation 255 to 0:",
         255,
         3,
         4,
-        0,
-        2,
+        4,
     );
-    controller_both(
-        b"08h cleared, a chunk refused, then captured:",
-        0,
-        3,
-        1,
-        2,
-        2,
-    );
-    controller_captured(b"08h captured after the last check:", 1, 3, 2);
-    controller_cleared(
+    controller(b"08h cleared, a chunk refused, then captured:", 0, 3, 1, 3);
+}
+
+// What happens after the last check, before the acknowledgement.
+fn late_runs() {
+    controller(b"08h captured after the last check:", 0, 1, NEVER, 3);
+    acknowledged(
         b"08h acknowledged by another after the last check:",
         1,
         1,
         3,
     );
-    controller_both(
+    controller(
         b"08h acknowledged and captured after the last check:",
         0,
         1,
         3,
-        0,
-        2,
+        3,
     );
-    host_many(b"07h, 255 captures in one attempt:", false);
-    host_many(b"07h, 256 captures in one attempt:", true);
+}
+
+fn many_runs() {
+    let mut c = calm(pages::HOST, 2, 1, 256);
+    c.captured = 2;
+    c.times = 255;
+    run(b"07h, 255 captures in one attempt:", c);
+    c.times = 256;
+    run(b"07h, 256 captures in one attempt:", c);
+}
+
+fn main() {
+    calm_runs();
+    host_runs();
+    controller_runs();
+    late_runs();
+    many_runs();
 }

@@ -11,8 +11,18 @@ use pages::Caps;
 use plans::Phase;
 use plans::Plan;
 
+// What a command comes back with: a refusal, or a header with its page, the last block of area 1, TCDA and the generation.
+enum Completion {
+    Refused,
+    Header(u8, u32, u8, u8),
+}
+
 fn say(text: &[u8]) {
     io::write_all(STDOUT_FILENO, text);
+}
+
+fn letter(c: u8) {
+    say(&[c]);
 }
 
 fn decimal(n: u64) {
@@ -101,7 +111,7 @@ fn show(label: &[u8], x: Stepped, copy: &[u8]) -> Collection {
     show_next(next);
     say(b", copy ");
     copy_is(copy);
-    say(b"\n");
+    letter(b'\n');
     x.state
 }
 
@@ -121,20 +131,28 @@ fn stepped(s: Collection, ok: bool, data: &[u8], copy: &mut [u8]) -> Collection 
     x.state
 }
 
-// The state that awaits the closing header: an area of three blocks, generation 5.
-fn collected(p: Plan, copy: &mut [u8]) -> Collection {
-    let head = heading(p.page, 3, 1, 5);
-    let a = stepped(began(p), true, &head, copy);
-    let b = stepped(a, true, &[1u8; 1024], copy);
-    stepped(b, true, &[2u8; 512], copy)
+// One step by a completion of a header, shown with the copy after it.
+fn completed(label: &[u8], s: Collection, c: Completion, copy: &mut [u8]) {
+    match c {
+        Completion::Refused => {
+            tried(label, s, false, b"", copy);
+        }
+        Completion::Header(page, b, tcda, generation) => {
+            tried(label, s, true, &heading(page, b, tcda, generation), copy);
+        }
+    }
 }
 
-// The same with the second chunk refused.
-fn broken(p: Plan, copy: &mut [u8]) -> Collection {
+// The state that awaits the last chunk of an area of three blocks, generation 5.
+fn opened(p: Plan, copy: &mut [u8]) -> Collection {
     let head = heading(p.page, 3, 1, 5);
     let a = stepped(began(p), true, &head, copy);
-    let b = stepped(a, true, &[1u8; 1024], copy);
-    stepped(b, false, b"", copy)
+    stepped(a, true, &[1u8; 1024], copy)
+}
+
+// The state that awaits the closing header.
+fn collected(p: Plan, copy: &mut [u8]) -> Collection {
+    stepped(opened(p, copy), true, &[2u8; 512], copy)
 }
 
 fn setup(label: &[u8], p: Plan) {
@@ -143,7 +161,7 @@ fn setup(label: &[u8], p: Plan) {
     say(label);
     say(b": ");
     show_next(next);
-    say(b"\n");
+    letter(b'\n');
 }
 
 fn setups() {
@@ -158,104 +176,111 @@ fn setups() {
     setup(b"a copy of no bytes", q);
 }
 
-fn first(label: &[u8], ok: bool, data: &[u8]) {
+fn first(label: &[u8], c: Completion) {
     let mut copy = [9u8; 2048];
-    tried(label, began(plan(0x08, 2)), ok, data, &mut copy);
+    completed(label, began(plan(0x08, 2)), c, &mut copy);
 }
 
 fn firsts() {
-    first(b"first header refused", false, b"");
-    first(b"of another page and TCDA 0", true, &heading(0x07, 5, 0, 5));
-    first(b"TCDA 0 and five blocks", true, &heading(0x08, 5, 0, 5));
-    first(b"five blocks", true, &heading(0x08, 5, 1, 5));
-    first(b"four blocks", true, &heading(0x08, 4, 1, 5));
+    first(b"first header refused", Completion::Refused);
+    first(
+        b"of another page and TCDA 0",
+        Completion::Header(0x07, 5, 0, 5),
+    );
+    first(b"TCDA 0 and five blocks", Completion::Header(0x08, 5, 0, 5));
+    first(b"five blocks", Completion::Header(0x08, 5, 1, 5));
+    first(b"four blocks", Completion::Header(0x08, 4, 1, 5));
 }
 
-fn closing(label: &[u8], p: Plan, ok: bool, data: &[u8]) {
+fn closing(label: &[u8], page: u8, attempts: u32, c: Completion) {
     let mut copy = [9u8; 2048];
-    let s = collected(p, &mut copy);
-    tried(label, s, ok, data, &mut copy);
+    let s = collected(plan(page, attempts), &mut copy);
+    completed(label, s, c, &mut copy);
 }
 
-fn closing_broken(label: &[u8], ok: bool, data: &[u8]) {
+// The same after a refused chunk.
+fn closing_broken(label: &[u8], c: Completion) {
     let mut copy = [9u8; 2048];
-    let s = broken(plan(0x08, 2), &mut copy);
-    tried(label, s, ok, data, &mut copy);
+    let s = opened(plan(0x08, 2), &mut copy);
+    let t = stepped(s, false, b"", &mut copy);
+    completed(label, t, c, &mut copy);
 }
 
 fn closings() {
-    let one = plan(0x08, 1);
-    let two = plan(0x08, 2);
     closing(
         b"closing header on 07h",
-        plan(0x07, 1),
-        true,
-        &heading(0x07, 3, 0, 5),
+        0x07,
+        1,
+        Completion::Header(0x07, 3, 0, 5),
     );
-    closing(b"closing header refused", two, false, b"");
+    closing(b"closing header refused", 0x08, 2, Completion::Refused);
     closing(
         b"of another page and TCDA 0",
-        two,
-        true,
-        &heading(0x07, 3, 0, 5),
+        0x08,
+        2,
+        Completion::Header(0x07, 3, 0, 5),
     );
     closing(
         b"TCDA 0 and the last attempt's mismatch",
-        one,
-        true,
-        &heading(0x08, 3, 0, 6),
+        0x08,
+        1,
+        Completion::Header(0x08, 3, 0, 6),
     );
+}
+
+fn matches() {
     closing(
         b"the last attempt's mismatch, five blocks",
-        one,
-        true,
-        &heading(0x08, 5, 1, 6),
+        0x08,
+        1,
+        Completion::Header(0x08, 5, 1, 6),
     );
     closing(
         b"a mismatch, five blocks",
-        two,
-        true,
-        &heading(0x08, 5, 1, 6),
+        0x08,
+        2,
+        Completion::Header(0x08, 5, 1, 6),
     );
     closing(
         b"a mismatch, four blocks",
-        two,
-        true,
-        &heading(0x08, 4, 1, 6),
+        0x08,
+        2,
+        Completion::Header(0x08, 4, 1, 6),
     );
-    closing(b"a match, five blocks", two, true, &heading(0x08, 5, 1, 5));
+    closing(
+        b"a match, five blocks",
+        0x08,
+        2,
+        Completion::Header(0x08, 5, 1, 5),
+    );
     closing_broken(
         b"a match after a refused chunk",
-        true,
-        &heading(0x08, 3, 1, 5),
+        Completion::Header(0x08, 3, 1, 5),
     );
     closing_broken(
         b"a mismatch after a refused chunk",
-        true,
-        &heading(0x08, 3, 1, 6),
+        Completion::Header(0x08, 3, 1, 6),
     );
 }
 
-fn acknowledged(label: &[u8], ok: bool, data: &[u8]) {
+fn acknowledged(label: &[u8], c: Completion) {
     let mut copy = [9u8; 2048];
     let s = collected(plan(0x08, 2), &mut copy);
     let t = stepped(s, true, &heading(0x08, 3, 1, 5), &mut copy);
-    tried(label, t, ok, data, &mut copy);
+    completed(label, t, c, &mut copy);
 }
 
 fn acknowledgements() {
-    acknowledged(b"acknowledged", true, &heading(0x08, 3, 1, 5));
+    acknowledged(b"acknowledged", Completion::Header(0x08, 3, 1, 5));
     acknowledged(
         b"acknowledged, another page's bad header",
-        true,
-        &heading(0x07, 5, 0, 5),
+        Completion::Header(0x07, 5, 0, 5),
     );
     acknowledged(
         b"acknowledged, a newer generation",
-        true,
-        &heading(0x08, 3, 1, 6),
+        Completion::Header(0x08, 3, 1, 6),
     );
-    acknowledged(b"acknowledgement refused", false, b"");
+    acknowledged(b"acknowledgement refused", Completion::Refused);
 }
 
 // A step that is lent another copy than the setup's, which stays.
@@ -315,6 +340,7 @@ fn main() {
     setups();
     firsts();
     closings();
+    matches();
     acknowledgements();
     unfit();
     made_by_hand();

@@ -13,6 +13,14 @@ fn say(text: &[u8]) {
     io::write_all(STDOUT_FILENO, text);
 }
 
+fn letter(c: u8) {
+    say(&[c]);
+}
+
+fn decimal(n: u64) {
+    io::print_decimal(STDOUT_FILENO, n);
+}
+
 fn digit(n: u32) -> u8 {
     let d = n % 16;
     if d < 10 {
@@ -34,46 +42,44 @@ fn word(w: u32) {
         digit(w / 16),
         digit(w),
     ];
-    io::write_all(STDOUT_FILENO, &digits);
+    say(&digits);
 }
 
 fn command(w: Words) {
     word(w.cdw10);
-    say(b" ");
+    letter(b' ');
     word(w.cdw11);
-    say(b" ");
+    letter(b' ');
     word(w.cdw12);
-    say(b" ");
+    letter(b' ');
     word(w.cdw13);
-    say(b" ");
+    letter(b' ');
     word(w.cdw14);
-    say(b"\n");
 }
 
-// The command or the ending; then the state.
-fn show(x: Stepped) -> Collection {
-    let next = x.next;
+fn follow(next: Next) {
     match next {
         Next::Send(w) => command(w),
         Next::End(e) => {
             let ending = e.ending;
             say(b"ending ");
-            io::print_decimal(STDOUT_FILENO, judgement::number(ending) as u64);
+            decimal(judgement::number(ending) as u64);
             say(b", commands ");
-            io::print_decimal(STDOUT_FILENO, e.count);
-            say(b"\n");
+            decimal(e.count);
         }
         Next::Refuse(answer) => {
             say(b"refused ");
-            io::print_decimal(STDOUT_FILENO, answer as u64);
-            say(b"\n");
+            decimal(answer as u64);
         }
     }
-    x.state
 }
 
-fn titles() {
-    say(b"cdw10 cdw11 cdw12 cdw13 cdw14\n");
+// The command or the ending; then the state.
+fn show(x: Stepped) -> Collection {
+    let next = x.next;
+    follow(next);
+    letter(b'\n');
+    x.state
 }
 
 fn plan(page: u8) -> Plan {
@@ -117,17 +123,30 @@ fn compare(copy: &[u8], wanted: &[u8]) {
     }
 }
 
+fn fill(bytes: &mut [u8; 4096], place: usize, v: u8) {
+    copies::put(&[v; 1536], bytes, place);
+}
+
 // Seven blocks of ones, twos and a three, and zeros in the eighth.
 fn seven_blocks() -> [u8; 4096] {
     let mut wanted = [0u8; 4096];
-    copies::put(&[1u8; 1536], &mut wanted, 0);
-    copies::put(&[2u8; 1536], &mut wanted, 1536);
     copies::put(&[3u8; 512], &mut wanted, 3072);
+    fill(&mut wanted, 0, 1);
+    fill(&mut wanted, 1536, 2);
     wanted
+}
+
+fn begun(page: u8) -> Collection {
+    say(b"cdw10 cdw11 cdw12 cdw13 cdw14\n");
+    show(collection::setup(plan(page)))
 }
 
 fn next(s: Collection, data: &[u8], copy: &mut [u8]) -> Collection {
     show(s.step(true, data, copy))
+}
+
+fn headed(s: Collection, page: u8, b: u32, copy: &mut [u8]) -> Collection {
+    next(s, &heading(page, b), copy)
 }
 
 fn chunks(s: Collection, copy: &mut [u8]) -> Collection {
@@ -136,26 +155,19 @@ fn chunks(s: Collection, copy: &mut [u8]) -> Collection {
     next(b, &[3u8; 512], copy)
 }
 
-// The same header twice: the closing header and the acknowledgement, or on 07h the first header and the closing one.
-fn twice(s: Collection, head: &[u8], copy: &mut [u8]) -> Collection {
-    next(next(s, head, copy), head, copy)
-}
-
 fn whole() {
     let mut copy = [9u8; 4096];
-    titles();
-    let a = show(collection::setup(plan(pages::CONTROLLER)));
-    let b = next(a, &heading(pages::CONTROLLER, 7), &mut copy);
-    let c = chunks(b, &mut copy);
-    twice(c, &heading(pages::CONTROLLER, 7), &mut copy);
+    let a = headed(begun(0x08), 0x08, 7, &mut copy);
+    let b = chunks(a, &mut copy);
+    let c = headed(b, 0x08, 7, &mut copy);
+    headed(c, 0x08, 7, &mut copy);
     compare(&copy, &seven_blocks());
 }
 
 fn empty() {
     let mut copy = [9u8; 4096];
-    titles();
-    let a = show(collection::setup(plan(pages::HOST)));
-    twice(a, &heading(pages::HOST, 0), &mut copy);
+    let a = headed(begun(0x07), 0x07, 0, &mut copy);
+    headed(a, 0x07, 0, &mut copy);
     compare(&copy, &[0u8; 4096]);
 }
 

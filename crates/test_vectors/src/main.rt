@@ -13,31 +13,51 @@ fn decimal(n: u64) {
     io::print_decimal(STDOUT_FILENO, n);
 }
 
-fn byte(b: u8) {
+fn letter(c: u8) {
+    say(&[c]);
+}
+
+fn newline() {
+    letter(b'\n');
+}
+
+fn number(label: &[u8], n: usize) {
+    say(label);
+    decimal(n as u64);
+}
+
+fn byte(label: &[u8], b: u8) {
+    say(label);
     decimal(b as u64);
 }
 
+fn flag(label: &[u8], is: bool) {
+    if is {
+        say(label);
+    }
+}
+
 fn word(n: u32) {
-    say(b" ");
+    letter(b' ');
     io::print_hex(STDOUT_FILENO, n as u64, 8);
 }
 
 fn class(identifier: u8) {
     io::print_hex(STDOUT_FILENO, identifier as u64, 2);
-    say(b" ");
+    letter(b' ');
     decimal(answers::class(identifier) as u64);
-    say(b"\n");
+    newline();
 }
 
 fn status(answer: u8) {
     let s = answers::status_of(answer);
     decimal(answer as u64);
     if s.given {
-        say(b" ");
+        letter(b' ');
         decimal(s.sct as u64);
-        say(b" ");
+        letter(b' ');
         io::print_hex(STDOUT_FILENO, s.sc as u64, 2);
-        say(b"\n");
+        newline();
     } else {
         say(b" none\n");
     }
@@ -52,7 +72,7 @@ fn build(page: u8, create: bool, mcda: u8, rae: bool, offset: u32, blocks: u32) 
     word(w.cdw12);
     word(w.cdw13);
     word(w.cdw14);
-    say(b"\n");
+    newline();
 }
 
 fn read(extended: bool, cdw10: u32, cdw11: u32, cdw12: u32, cdw13: u32, cdw14: u32) {
@@ -64,34 +84,26 @@ fn read(extended: bool, cdw10: u32, cdw11: u32, cdw12: u32, cdw13: u32, cdw14: u
         cdw14,
     };
     let c = words::read(extended, w);
-    say(b"page ");
-    decimal(c.page as u64);
-    if c.create {
-        say(b" create");
-    }
-    say(b" mcda ");
-    decimal(c.mcda as u64);
-    if c.rae {
-        say(b" rae");
-    }
-    say(b" bytes ");
-    decimal(c.bytes as u64);
-    say(b" offset ");
-    decimal(c.offset as u64);
-    if c.indexed {
-        say(b" indexed");
-    }
-    say(b"\n");
+    byte(b"page ", c.page);
+    flag(b" create", c.create);
+    byte(b" mcda ", c.mcda);
+    flag(b" rae", c.rae);
+    number(b" bytes ", c.bytes);
+    number(b" offset ", c.offset);
+    flag(b" indexed", c.indexed);
+    newline();
+}
+
+fn after_comma(n: u32) {
+    letter(b',');
+    decimal(n as u64);
 }
 
 fn four(a: [u32; 4]) {
     decimal(a[0] as u64);
-    say(b",");
-    decimal(a[1] as u64);
-    say(b",");
-    decimal(a[2] as u64);
-    say(b",");
-    decimal(a[3] as u64);
+    after_comma(a[1]);
+    after_comma(a[2]);
+    after_comma(a[3]);
 }
 
 fn capable(da4s: bool, etdas: bool, mcdas: bool) -> Caps {
@@ -106,12 +118,12 @@ fn capable(da4s: bool, etdas: bool, mcdas: bool) -> Caps {
 
 fn trim(da4s: bool, etdas: bool, mcdas: bool, mcda: u32, a: [u32; 4]) {
     four(pages::trim(capable(da4s, etdas, mcdas), mcda, a));
-    say(b"\n");
+    newline();
 }
 
 fn size(da4s: bool, etdas: bool, a: [u32; 4]) {
     decimal(pages::size(capable(da4s, etdas, false), a) as u64);
-    say(b"\n");
+    newline();
 }
 
 fn rule(da4s: bool, a: [u32; 4]) {
@@ -136,32 +148,29 @@ fn sample(page: u8) -> [u8; 512] {
     })
 }
 
-fn check(page: u8, da4s: bool, h: &[u8]) {
-    let k = header::check(page, da4s, h);
-    let f = k.fields;
-    let fault = k.fault;
-    decimal(header::answer_of(fault) as u64);
-    say(b" page ");
-    decimal(f.page as u64);
+fn fields(f: Fields) {
+    let last = f.last;
+    let reason = f.reason;
+    byte(b" page ", f.page);
     say(b" oui");
     word(f.oui);
     say(b" last ");
-    let last = f.last;
     four(last);
-    say(b" scope ");
-    decimal(f.scope as u64);
-    say(b" generations ");
-    decimal(f.hostgeneration as u64);
-    say(b",");
-    decimal(f.controllergeneration as u64);
-    say(b" tcda ");
-    decimal(f.tcda as u64);
-    say(b" reason ");
-    let reason = f.reason;
-    byte(reason[0]);
-    say(b",");
-    byte(reason[127]);
-    say(b"\n");
+    byte(b" scope ", f.scope);
+    byte(b" generations ", f.hostgeneration);
+    byte(b",", f.controllergeneration);
+    byte(b" tcda ", f.tcda);
+    byte(b" reason ", reason[0]);
+    byte(b",", reason[127]);
+    newline();
+}
+
+fn check(page: u8, da4s: bool, h: &[u8]) {
+    let k = header::check(page, da4s, h);
+    let fault = k.fault;
+    let f = k.fields;
+    decimal(header::answer_of(fault) as u64);
+    fields(f);
 }
 
 fn check_whole(page: u8, da4s: bool, h: &[u8; 512]) {
@@ -272,11 +281,17 @@ fn trimmed() {
     trim(false, true, true, 2, [2, 2, 5, 9]);
     say(b"candidate (0,3,5,5), MCDA 1\n");
     trim(true, true, true, 1, [0, 3, 5, 5]);
+}
+
+fn sizes() {
     say(b"sizes: (2,2,5,0) without area 4; (2,2,5,9) with, and with ETDAS 0; any four numbers\n");
     size(false, false, [2, 2, 5, 0]);
     size(true, true, [2, 2, 5, 9]);
     size(true, false, [2, 2, 5, 9]);
     size(true, true, [0, 0, 0, 4294967295]);
+}
+
+fn rules() {
     say(
         b"the rule: in order; a1 > a2; a2 > a3; a3 over its limit; a4 < a3; a4 over its limit; a4 alone; a4 without DA4S\n",
     );
@@ -294,12 +309,10 @@ fn trimmed() {
     rule(false, [0, 0, 0, 0]);
 }
 
-fn headers() {
+fn good_headers() {
     say(b"headers read back: 07h, 08h\n");
-    let host = sample(0x07);
-    let controller = sample(0x08);
-    check_whole(0x07, true, &host);
-    check_whole(0x08, true, &controller);
+    check_whole(0x07, true, &sample(0x07));
+    check_whole(0x08, true, &sample(0x08));
     say(
         b"good: 07h with scope 0, 08h with byte 380 at FFh, 07h with TCDA 1 and a3 = 0, 08h with TCDA 0 and last blocks\n",
     );
@@ -310,6 +323,10 @@ fn headers() {
     empty[382] = 1;
     check_whole(0x07, false, &empty);
     check_with(0x08, 382, 0);
+}
+
+fn bad_headers() {
+    let host = sample(0x07);
     say(
         b"bad: length, identifier, a page asked for that is none, a1 > a2, a4 without DA4S, scope 3, TCDA 2, 08h available but empty\n",
     );
@@ -322,7 +339,9 @@ fn headers() {
     check_whole(0x07, false, &host);
     check_with(0x08, 381, 3);
     check_with(0x07, 382, 2);
+    let mut empty = [0u8; 512];
     empty[0] = 0x08;
+    empty[382] = 1;
     check_whole(0x08, false, &empty);
 }
 
@@ -332,5 +351,8 @@ fn main() {
     built();
     asked();
     trimmed();
-    headers();
+    sizes();
+    rules();
+    good_headers();
+    bad_headers();
 }
