@@ -12,12 +12,11 @@ use Rattle.copies.specs.Parts.{zeros}
 use Rattle.answers.specs.Answers.{success, badSetup, alreadyEnded, doesNotFit}
 use Rattle.pages.specs.Pages.{most4}
 use Rattle.words.specs.declared.Words.{Words}
-use Rattle.plans.specs.declared.Due.{Due}
 use Rattle.plans.specs.declared.Plan.{Plan}
 use Rattle.plans.specs.declared.Phase.{Phase}
 use Rattle.plans.specs.declared.Phase.the-variants.{First, Ended}
 use Rattle.plans.specs.Phases.{endedBy}
-use Rattle.plans.specs.Plans.{mostAttempts, setupAnswer, wordsBy, expectedBy, withinBy, awaitedBy}
+use Rattle.plans.specs.Plans.{mostAttempts, setupAnswer, wordsBy, expectedBy, withinBy}
 use Rattle.completions.specs.declared.Seen.{Seen}
 use Rattle.completions.specs.declared.Touch.{Touch}
 use Rattle.completions.specs.declared.Touch.the-variants.{Keep}
@@ -36,10 +35,6 @@ use Rattle.collection.specs.declared.Stepped.{Stepped}
 use Rattle.collection.specs.declared.Decided.{Decided}
 
 -- ---- what is awaited
-
--- all of it
-abbrev pub dueOf : Collection → Due
-dueOf s = awaitedBy (s .phase) (s .plan) (s .attempt .last)
 
 -- the awaited command
 unfoldable pub awaitedOf : Collection → Words

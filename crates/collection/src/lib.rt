@@ -9,14 +9,13 @@ use completions::Touch;
 use judgement::Attempt;
 use judgement::Ending;
 use judgement::Move;
-use plans::Due;
 use plans::Phase;
 use plans::Plan;
 use turns::Turn;
 use words::Words;
 ghost use mathlib.Core.Path.{_≡_};
 ghost use lib.ListN.{length};
-ghost use Rattle.collection.specs.Collection.{dueOf, awaitedOf, mostCount, firstRefusal, refusalOf, turnedTo, sends, ends, refuses, decidedBy, actOf, moveOf, madeOf, decideOf, beginning, setupOf, stepOf, copyAfter, Bounded};
+ghost use Rattle.collection.specs.Collection.{awaitedOf, mostCount, firstRefusal, refusalOf, turnedTo, sends, ends, refuses, decidedBy, actOf, moveOf, madeOf, decideOf, beginning, setupOf, stepOf, copyAfter, Bounded};
 
 // The most commands of one attempt: the chunks of the largest area, a block each, and the closing header.
 const MOST_OF_ATTEMPT: u64 = 1048577;
@@ -82,22 +81,15 @@ fn first_refusal(over: bool, valid: bool, fits: bool) -> u8
 }
 
 impl Collection {
-    fn due(self) -> Due
-        ensures { λ r. ⌜ r ≡ dueOf self ⌝ }
+    // The command that is awaited: five zero words after the ending.
+    pub fn awaited(self) -> Words
+        ensures { λ r. ⌜ r ≡ awaitedOf self ⌝ }
     {
         let plan = self.plan;
         let phase = self.phase;
         let attempt = self.attempt;
         let last = attempt.last;
         plans::awaited(phase, plan, last)
-    }
-
-    // The command that is awaited: five zero words after the ending.
-    pub fn awaited(self) -> Words
-        ensures { λ r. ⌜ r ≡ awaitedOf self ⌝ }
-    {
-        let due = self.due();
-        due.words
     }
 
     // 14, 13, 15, or 0.
@@ -107,7 +99,8 @@ impl Collection {
         let plan = self.plan;
         let phase = self.phase;
         let attempt = self.attempt;
-        let due = self.due();
+        let last = attempt.last;
+        let due = plans::expected(phase, plan, last);
         let valid = (plans::setup_answer(plan) == answers::SUCCESS)
             & ((1 <= attempt.number) & (attempt.number <= plan.attempts))
             & (self.count <= most_count(plan.attempts))

@@ -105,9 +105,9 @@ insideBy Ended b = true
 unfoldable pub withinBy : Phase → Plan → List ℕ → Bool
 withinBy f p last = fitsRoom p last && insideBy f (areaLast p last)
 
--- all of what is awaited
-unfoldable pub awaitedBy : Phase → Plan → List ℕ → Due
-awaitedBy f p last = record { words = wordsBy f p last; bytes = expectedBy f p last; within = withinBy f p last }
+-- what a completion is judged by before anything else
+unfoldable pub dueBy : Phase → Plan → List ℕ → Due
+dueBy f p last = record { bytes = expectedBy f p last; within = withinBy f p last }
 
 -- the chunk at a block, or the closing header where the area ends before it
 unfoldable pub phaseAt : ℕ → ℕ → Phase

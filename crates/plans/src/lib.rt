@@ -9,7 +9,7 @@ ghost use mathlib.Core.Path.{_≡_};
 ghost use Prim.Native.Nat.{_+_};
 ghost use Rattle.choices.specs.Tests.{holds};
 ghost use Rattle.plans.specs.Phases.{asked, endedBy};
-ghost use Rattle.plans.specs.Plans.{planTests, setupAnswer, areaLast, areaBytes, fitsRoom, chunkBlocks, mcdaOf, asksFor, insideBy, phaseAt, awaitedBy};
+ghost use Rattle.plans.specs.Plans.{planTests, setupAnswer, areaLast, areaBytes, fitsRoom, chunkBlocks, mcdaOf, asksFor, insideBy, phaseAt, wordsBy, dueBy};
 
 // The most attempts of a collection.
 pub const MOST_ATTEMPTS: u32 = 256;
@@ -46,10 +46,9 @@ pub struct Ask {
     pub blocks: u32,
 }
 
-// What is awaited: the command's words, the bytes that its success brings, and whether the area of the attempt's header fits the copy and an
-// awaited chunk starts in it.
+// What is awaited: the bytes that a success brings, and whether the area of the attempt's header fits the copy and an awaited chunk starts in
+// it.
 pub struct Due {
-    pub words: Words,
     pub bytes: usize,
     pub within: bool,
 }
@@ -171,16 +170,22 @@ pub fn ended(phase: Phase) -> bool
     }
 }
 
-// What is awaited in a phase, in an attempt whose header has these last blocks. After the ending it is five zero words and no bytes.
-pub fn awaited(phase: Phase, p: Plan, last: [u32; 4]) -> Due
-    ensures { λ r. ⌜ r ≡ awaitedBy phase p last ⌝ }
+// The command that is awaited in a phase, in an attempt whose header has these last blocks: five zero words after the ending.
+pub fn awaited(phase: Phase, p: Plan, last: [u32; 4]) -> Words
+    ensures { λ r. ⌜ r ≡ wordsBy phase p last ⌝ }
 {
     let a = asks_for(phase, p, last);
     let built = words::build(p.page, a.create, a.mcda, a.rae, a.offset, a.blocks);
-    let words = built.words;
+    built.words
+}
+
+// What its completion is judged by before anything else.
+pub fn expected(phase: Phase, p: Plan, last: [u32; 4]) -> Due
+    ensures { λ r. ⌜ r ≡ dueBy phase p last ⌝ }
+{
+    let a = asks_for(phase, p, last);
     let fits = fits_room(p, last);
     Due {
-        words,
         bytes: pages::in_bytes(a.blocks),
         within: fits & inside(phase, area_last(p, last)),
     }

@@ -1,7 +1,7 @@
 -- `plans::awaited` meets its contract: the command is the builder's for what the phase asks for.
 -- Assumes nothing.
 use borrow.Author.Needs.{needs}
-use Rattle.plans.specs.Plans.{awaitedBy, wordsBy, withinBy}
+use Rattle.plans.specs.Plans.{wordsBy}
 use Rattle.plans.proofs.awaited.Statement.{statement}
 use Rattle.plans.proofs.awaited.Tie as tie
 
@@ -11,30 +11,9 @@ asks-for-requires c κs = search needs
 build-requires : tie.Need-build-requires
 build-requires c κs = search needs
 
-fits-room-requires : tie.Need-fits-room-requires
-fits-room-requires c κs = search needs
-
-in-bytes-requires : tie.Need-in-bytes-requires
-in-bytes-requires c κs = search needs
-
-area-last-requires : tie.Need-area-last-requires
-area-last-requires c κs = search needs
-
-inside-requires : tie.Need-inside-requires
-inside-requires c κs = search needs
-
 returns : tie.Need-returns
-unfolding awaitedBy wordsBy withinBy
-returns c = rw (c .inside .ensures, c .before .area-last .ensures, c .before .before .in-bytes .ensures, c .before .before .before .fits-room .ensures, c .before .before .before .before .before .build .ensures, c .before .before .before .before .before .before .asks-for .ensures)
+unfolding wordsBy
+returns c = rw (c .before .build .ensures, c .before .before .asks-for .ensures)
 
 pub awaited-spec : {M : Type 1} → statement M
-awaited-spec =
-    tie.close
-    (tie.spec
-    asks-for-requires
-    build-requires
-    fits-room-requires
-    in-bytes-requires
-    area-last-requires
-    inside-requires
-    returns)
+awaited-spec = tie.close (tie.spec asks-for-requires build-requires returns)

@@ -1,17 +1,16 @@
--- `collection::Collection::awaited` meets its contract: the words are those that are due.
+-- `collection::Collection::awaited` meets its contract: the command is that of the phase.
 -- Assumes nothing.
 use borrow.Author.Needs.{needs}
 use Rattle.collection.specs.Collection.{awaitedOf}
-use Rattle.plans.specs.Plans.{awaitedBy}
 use Rattle.collection.proofs.Collection.awaited.Statement.{statement}
 use Rattle.collection.proofs.Collection.awaited.Tie as tie
 
-due-requires : tie.Need-due-requires
-due-requires c κs = search needs
+awaited-requires : tie.Need-awaited-requires
+awaited-requires c κs = search needs
 
 returns : tie.Need-returns
-unfolding awaitedOf awaitedBy
-returns c = rw (c .before .due .ensures)
+unfolding awaitedOf
+returns c = c .awaited .ensures
 
 pub awaited-spec : {M : Type 1} → statement M
-awaited-spec = tie.close (tie.spec due-requires returns)
+awaited-spec = tie.close (tie.spec awaited-requires returns)

@@ -3,13 +3,13 @@
 use mathlib.Core.Path.{_∙_}
 use borrow.Author.Needs.{needs}
 use Rattle.choices.specs.Tests.{holds}
-use Rattle.plans.specs.Plans.{awaitedBy}
+use Rattle.plans.specs.Plans.{dueBy}
 use Rattle.collection.specs.Collection.{refusalOf, validState, completionFits, expectedOf}
 use Rattle.collection.proofs.Collection.refusal.Statement.{statement}
 use Rattle.collection.proofs.Collection.refusal.Tie as tie
 
-due-requires : tie.Need-due-requires
-due-requires c κs = search needs
+expected-requires : tie.Need-expected-requires
+expected-requires c κs = search needs
 
 setup-answer-requires : tie.Need-setup-answer-requires
 setup-answer-requires c κs = search needs
@@ -27,18 +27,18 @@ first-refusal-requires : tie.Need-first-refusal-requires
 first-refusal-requires c κs = search needs
 
 returns : tie.Need-returns
-unfolding refusalOf validState completionFits expectedOf holds awaitedBy
+unfolding refusalOf validState completionFits expectedOf holds dueBy
 returns c =
     let back6 = c .before .before .before .before .before .before in
     let back10 = back6 .before .before .before .before in
     c .first-refusal .ensures
-    ∙ rw (c .before .ended .ensures, c .before .before .pick-usize .ensures, back6 .most-count .ensures, back10 .setup-answer .ensures, back10 .before .due .ensures)
+    ∙ rw (c .before .ended .ensures, c .before .before .pick-usize .ensures, back6 .most-count .ensures, back10 .setup-answer .ensures, back10 .before .expected .ensures)
 
 pub refusal-spec : {M : Type 1} → statement M
 refusal-spec =
     tie.close
     (tie.spec
-    due-requires
+    expected-requires
     setup-answer-requires
     most-count-requires
     pick-usize-requires
