@@ -1,6 +1,6 @@
 -- Document 01, "Answer numbers": the sixteen answers, and the NVMe status of those that have one.
 -- Assumes nothing.
-use Prim.Native.Nat.{ℕ}
+use Prim.Native.Nat.{ℕ, _+_, _*_}
 use mathlib.Core.Bool.{true, false}
 use lib.Dec.{eqb}
 use Rattle.choices.specs.Choice.{pick}
@@ -97,3 +97,11 @@ statusOf answer =
     (pick (eqb answer invalidField) (nvmeStatus generic 0x02)
     (pick (eqb answer invalidLogPage) (nvmeStatus commandSpecific 0x09)
     noStatus))
+
+-- the number of an answer that has no NVMe status
+abbrev pub noNumber : ℕ
+noNumber = 0xFFFF
+
+-- a status as one number, type * 256 + code
+abbrev pub statusNumber : Status → ℕ
+statusNumber s = pick (s .given) (256 * s .sct + s .sc) noNumber

@@ -5,7 +5,7 @@
 // refusal of the call itself has none, that the table has at every identifier the class that document 01's ranges say, and that the
 // classes' counts are the document's (specs/Classes.antt).
 ghost use mathlib.Core.Path.{_≡_};
-ghost use Rattle.answers.specs.Answers.{nvmeStatus, noStatus, statusOf};
+ghost use Rattle.answers.specs.Answers.{nvmeStatus, noStatus, statusOf, statusNumber};
 ghost use Rattle.answers.specs.Classes.{classOf};
 
 // Success.
@@ -82,6 +82,21 @@ pub fn status_of(answer: u8) -> Status
         INVALID_FIELD => nvme(GENERIC, 0x02),
         INVALID_LOG_PAGE => nvme(COMMAND_SPECIFIC, 0x09),
         _ => no_status(),
+    }
+}
+
+// The number of an answer that has no NVMe status.
+const NO_NUMBER: u16 = 0xffff;
+
+// The NVMe status of an answer as one number.
+pub fn status_number(answer: u8) -> u16
+    ensures { λ r. ⌜ r ≡ statusNumber (statusOf answer) ⌝ }
+{
+    let status = status_of(answer);
+    if status.given {
+        256 * (status.sct as u16) + (status.sc as u16)
+    } else {
+        NO_NUMBER
     }
 }
 

@@ -8,9 +8,9 @@ use mathlib.Core.Bool.{Bool, true, false, not, _&&_}
 use native.Mathlib.Omega.{arith}
 use lib.ListN.{length, take}
 use lib.Dec.{eqb}
-use borrow.Author.Tests.{eqb-true, eq-eqb, ne-eqb, eqb-false, not-true}
+use borrow.Author.Tests.{eqb-true, eq-eqb, ne-eqb, not-true}
 use Rattle.choices.specs.Choice.{pick-cases}
-use Rattle.choices.specs.Tests.{by-test, and-left, and-right}
+use Rattle.choices.specs.Tests.{by-test, same-or-not, and-left, and-right}
 use Rattle.copies.specs.Parts.{zeros, put-length}
 use Rattle.answers.specs.Answers.{success}
 use Rattle.pages.specs.Pages.{hostPage, controllerPage, block, lastOf, greatestOf, topOf, trimmedTo, trimOf}
@@ -33,14 +33,6 @@ asked w words = readOf (w .own .caps .extended) words
 abbrev pub verdict : World → Candidate → Words → List ℕ → ℕ
 verdict w candidate words buf = commandAnswer (w .own) (asked w words) (candidate .last) (lentBy w candidate buf)
 
--- by cases on whether a number is 0
-by-zero : (P : ℕ → Type 0) (x : ℕ) → (x ≡ success → P x) → ((x ≡ success → ⊥) → P x) → P x
-by-zero P x f g = cases (eqb x success) refl
-  where
-    cases : (t : Bool) → eqb x success ≡ t → P x
-    cases true e = f (eqb-true x success e)
-    cases false e = g (eqb-false x success e)
-
 -- ---- a command by its answer
 
 pub command-done : (w : World) (candidate : Candidate) (words : Words) (buf : List ℕ) → verdict w candidate words buf ≡ success
@@ -55,10 +47,9 @@ command-refused w candidate words buf n = rw (ne-eqb _ success n)
 
 pub command-answer : (w : World) (candidate : Candidate) (words : Words) (buf : List ℕ) → commandOf w candidate words buf .answer ≡ verdict w candidate words buf
 command-answer w candidate words buf =
-    by-zero (λ (x : ℕ). verdict w candidate words buf ≡ x → commandOf w candidate words buf .answer ≡ x) (verdict w candidate words buf)
-    (λ e q. rw (command-done w candidate words buf e) (sym e))
-    (λ n q. rw (command-refused w candidate words buf n))
-    refl
+    same-or-not (verdict w candidate words buf) success
+    (λ e. rw (command-done w candidate words buf e) (sym e))
+    (λ n. rw (command-refused w candidate words buf n))
 
 -- a refused command changes no store, no record and no buffer
 pub refusal-changes-nothing : (w : World) (candidate : Candidate) (words : Words) (buf : List ℕ) → (commandOf w candidate words buf .answer ≡ success → ⊥)
@@ -89,12 +80,11 @@ pub command-frame : (P : World → Type 0) (w : World) (candidate : Candidate) (
     → (Accepted (w .own) (asked w words) (candidate .last) (lentBy w candidate buf) → asked w words .page ≡ controllerPage → asked w words .rae ≡ false → P (world (clearedOf (w .own)) (w .host) (w .controller)))
     → P (commandOf w candidate words buf .world)
 command-frame P w candidate words buf same made gone =
-    by-zero (λ (x : ℕ). verdict w candidate words buf ≡ x → P (commandOf w candidate words buf .world)) (verdict w candidate words buf)
-    (λ e q. rw (command-done w candidate words buf e)
+    same-or-not (verdict w candidate words buf) success
+    (λ e. rw (command-done w candidate words buf e)
     (let g = accepted (w .own) (asked w words) (candidate .last) (lentBy w candidate buf) e in
     done-frame P w candidate (asked w words) (create-host (w .own .caps .extended) words (asked w words) refl) same (made g) (gone g)))
-    (λ n q. rw (command-refused w candidate words buf n) same)
-    refl
+    (λ n. rw (command-refused w candidate words buf n) same)
 
 -- ---- an agreeing world stays one
 

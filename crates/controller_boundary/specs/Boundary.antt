@@ -1,7 +1,7 @@
 -- What the controller's functions of include/bumbazeel.h answer and leave in the bytes that they are lent: the definitions of the crates
 -- below, on what the bytes say. A record's bytes that are damaged are refused before anything else, with 4.
 -- Assumes nothing.
-use Prim.Native.Nat.{ℕ, _+_, _*_}
+use Prim.Native.Nat.{ℕ}
 use mathlib.Core.List.{List}
 use mathlib.Core.Bool.{Bool, _&&_}
 use lib.ListN.{getD}
@@ -9,7 +9,6 @@ use lib.Dec.{leb, eqb}
 use Rattle.choices.specs.Choice.{pick}
 use Rattle.copies.specs.Parts.{zeros}
 use Rattle.answers.specs.Answers.{success, disagree}
-use Rattle.answers.specs.declared.Status.{Status}
 use Rattle.words.specs.declared.Words.{Words}
 use Rattle.records.specs.declared.Identity.{Identity}
 use Rattle.records.specs.declared.Record.{Record}
@@ -21,14 +20,6 @@ use Rattle.record_layout.specs.Layout.{recordBytes, recordAt, recordIntact}
 -- the five words of an array
 abbrev pub wordsOf : List ℕ → Words
 wordsOf l = record { cdw10 = getD l 0 0; cdw11 = getD l 1 0; cdw12 = getD l 2 0; cdw13 = getD l 3 0; cdw14 = getD l 4 0 }
-
--- the number of an answer that has no NVMe status
-abbrev pub noNumber : ℕ
-noNumber = 0xFFFF
-
--- a status as one number, type * 256 + code
-abbrev pub numberOf : Status → ℕ
-numberOf s = pick (s .given) (256 * s .sct + s .sc) noNumber
 
 -- the identity that the arguments say
 abbrev pub identityOf : ℕ → ℕ → ℕ → Identity

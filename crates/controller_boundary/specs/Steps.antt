@@ -1,6 +1,6 @@
 -- What the code's calls come to, one after another.
 -- Assumes nothing.
-use Prim.Native.Nat.{ℕ, _+_, _*_}
+use Prim.Native.Nat.{ℕ}
 use mathlib.Core.Path.{_≡_, sym, ap, _∙_}
 use mathlib.Core.List.{List}
 use mathlib.Core.Bool.{Bool, true, false, not, _&&_}
@@ -10,7 +10,6 @@ use Rattle.choices.specs.Choice.{pick}
 use Rattle.choices.specs.Tests.{by-test, clash}
 use Rattle.copies.specs.Parts.{zeros}
 use Rattle.answers.specs.Answers.{success, disagree}
-use Rattle.answers.specs.declared.Status.{Status}
 use Rattle.pages.specs.declared.Caps.{Caps}
 use Rattle.words.specs.declared.Words.{Words}
 use Rattle.records.specs.declared.Identity.{Identity}
@@ -20,13 +19,7 @@ use Rattle.records.specs.Back.{agreed, fresh-agrees}
 use Rattle.controller.specs.Controller.{Candidate, world, outcome, commandOf, captureOf}
 use Rattle.shared_layouts.specs.Layouts.{mostCaps, capsOf}
 use Rattle.record_layout.specs.Layout.{recordBytes, recordAt, recordIntact}
-use Rattle.controller_boundary.specs.Boundary.{noNumber, numberOf, freshOk, freshBytes, recordAfter, commandAnswer, commandAnswerOf, commandAt, captureAnswer, captureAnswerOf, captureAt}
-
-pub given-is : {s t : Status} → s ≡ t → s .given ≡ true → 256 * s .sct + s .sc ≡ numberOf t
-given-is {s} e g = ap (λ (b : Bool). pick b (256 * s .sct + s .sc) noNumber) (sym g) ∙ ap numberOf e
-
-pub not-given-is : {s t : Status} → s ≡ t → s .given ≡ false → noNumber ≡ numberOf t
-not-given-is {s} e g = ap (λ (b : Bool). pick b (256 * s .sct + s .sc) noNumber) (sym g) ∙ ap numberOf e
+use Rattle.controller_boundary.specs.Boundary.{freshOk, freshBytes, recordAfter, commandAnswer, commandAnswerOf, commandAt, captureAnswer, captureAnswerOf, captureAt}
 
 -- ---- a fresh record
 

@@ -10,13 +10,10 @@ use records::Record;
 use words::Words;
 ghost use mathlib.Core.Path.{_≡_};
 ghost use Rattle.choices.specs.Choice.{pick};
-ghost use Rattle.answers.specs.Answers.{success, disagree, statusOf};
+ghost use Rattle.answers.specs.Answers.{success, disagree, statusOf, statusNumber};
 ghost use Rattle.answers.specs.Classes.{classOf};
 ghost use Rattle.controller.specs.Controller.{candidateOf};
-ghost use Rattle.controller_boundary.specs.Boundary.{wordsOf, numberOf, identityOf, freshOk, freshBytes, recordAfter, commandAnswer, commandAt, captureAnswer, captureAt};
-
-// The number of an answer that has no NVMe status.
-const NO_NUMBER: u16 = 0xffff;
+ghost use Rattle.controller_boundary.specs.Boundary.{wordsOf, identityOf, freshOk, freshBytes, recordAfter, commandAnswer, commandAt, captureAnswer, captureAt};
 
 // The class of a page identifier.
 #[no_mangle]
@@ -29,14 +26,9 @@ pub extern "C" fn bumbazeel_class(page: u8) -> u8
 // The NVMe status of an answer as one number.
 #[no_mangle]
 pub extern "C" fn bumbazeel_status(answer: u8) -> u16
-    ensures { λ r. ⌜ r ≡ numberOf (statusOf answer) ⌝ }
+    ensures { λ r. ⌜ r ≡ statusNumber (statusOf answer) ⌝ }
 {
-    let status = answers::status_of(answer);
-    if status.given {
-        256 * (status.sct as u16) + (status.sc as u16)
-    } else {
-        NO_NUMBER
-    }
+    answers::status_number(answer)
 }
 
 fn words_of(a: [u32; 5]) -> Words

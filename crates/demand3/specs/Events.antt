@@ -10,7 +10,7 @@ use lib.ListN.{take}
 use lib.Dec.{eqb}
 use borrow.Author.Tests.{eqb-true, ne-eqb}
 use Rattle.choices.specs.Choice.{pick-cases}
-use Rattle.choices.specs.Tests.{by-test, clash, and-left}
+use Rattle.choices.specs.Tests.{by-test, clash, and-left, same-or-not}
 use Rattle.answers.specs.Answers.{success}
 use Rattle.pages.specs.declared.Caps.{Caps}
 use Rattle.pages.specs.Pages.{hostPage, controllerPage, telemetryPage}
@@ -22,7 +22,6 @@ use Rattle.verdicts.specs.Verdicts.{captureAnswer}
 use Rattle.plans.specs.declared.Plan.{Plan}
 use Rattle.plans.specs.Plans.{setupAnswer, areaBytes}
 use Rattle.completions.specs.Completions.{showsNone}
-use Rattle.choices.specs.Tests.{same-or-not}
 use Rattle.captures.specs.Captures.{clearedOf}
 use Rattle.controller.specs.Controller.{World, world, Candidate, Outcome, storeFor, hostCaptured, controllerCaptured, before, afterwards, captureOf, captureAnswered, lentBy}
 use Rattle.controller.specs.Steps.{create-host, host-stays, captured, no-capture}

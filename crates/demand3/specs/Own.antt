@@ -9,7 +9,7 @@ use lib.ListN.{length, take, drop}
 use lib.Seq.{take-at, take-take}
 use borrow.Author.Tests.{le-leb, not-false}
 use Rattle.choices.specs.Choice.{pick}
-use Rattle.choices.specs.Tests.{clash, each, and-left, and-right}
+use Rattle.choices.specs.Tests.{clash, each, and-left, and-right, same-or-not}
 use Rattle.copies.specs.Lists.{drop-take}
 use Rattle.answers.specs.Answers.{success, shortBuffer, disagree, brokenCandidate}
 use Rattle.pages.specs.declared.Caps.{Caps}
@@ -28,7 +28,6 @@ use Rattle.plans.specs.Awaited.{chunk-taken}
 use Rattle.plans.specs.Limits.{plan-taken, chunk-inside, chunk-ends}
 use Rattle.plans.specs.Plans.{planTests, setupAnswer, areaLast, areaBytes, fitsRoom, chunkBlocks, insideBy}
 use Rattle.completions.specs.Completions.{seenOf}
-use Rattle.choices.specs.Tests.{same-or-not}
 use Rattle.plans.specs.declared.Phase.the-variants.{Chunk}
 use Rattle.controller.specs.Controller.{World, Candidate, Outcome, outcome, lentBy, afterwards, hostCaptured, commandOf, storeFor, pageOf}
 use Rattle.controller.specs.Laws.{asked, command-answer, refusal-changes-nothing}

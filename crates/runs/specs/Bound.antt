@@ -12,7 +12,7 @@ use lib.ListN.{length}
 use lib.Dec.{leb, eqb}
 use borrow.Author.Tests.{le-leb, eq-eqb}
 use Rattle.choices.specs.Choice.{pick, pick-cases, larger-left, larger-right, firstThat}
-use Rattle.choices.specs.Tests.{holds, clash}
+use Rattle.choices.specs.Tests.{holds, clash, same-or-not}
 use Rattle.answers.specs.Answers.{success, badSetup, alreadyEnded, doesNotFit}
 use Rattle.copies.specs.Parts.{zeros}
 use Rattle.pages.specs.Pages.{controllerPage, most4, lastOf}
@@ -30,7 +30,6 @@ use Rattle.plans.specs.Plans.{setupAnswer, areaLast, fitsRoom, insideBy, within
 use Rattle.collection.specs.Collection.{mostCount, validState, completionFits, lookOf, refusalOf, moveOf, setupOf, answerOf}
 use Rattle.collection.specs.Laws.{move-cases}
 use Rattle.collection.specs.Steps.{makes, setup-taken, refused-step, taken-step}
-use Rattle.choices.specs.Tests.{same-or-not}
 use Rattle.collection.specs.declared.Collection.{Collection}
 use Rattle.runs.specs.Run.{Completion, stepBy, after, stateOf, chunksFrom, chunksOf, mostChunks, acknowledging, fitting}
 use Rattle.runs.specs.Counted.{step-counts, plan-stays}

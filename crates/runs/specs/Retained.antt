@@ -9,7 +9,7 @@ use native.Mathlib.Omega.{arith}
 use lib.ListN.{length}
 use lib.Dec.{leb}
 use Rattle.choices.specs.Choice.{pick-cases}
-use Rattle.choices.specs.Tests.{clash}
+use Rattle.choices.specs.Tests.{clash, same-or-not}
 use Rattle.answers.specs.Answers.{success}
 use Rattle.copies.specs.Parts.{zeros}
 use Rattle.pages.specs.Pages.{hostPage, controllerPage, most4}
@@ -28,7 +28,6 @@ use Rattle.collection.specs.Collection.{awaitedOf, refusalOf, lookOf, moveOf, b
 use Rattle.collection.specs.Copied.{not-sent}
 use Rattle.collection.specs.Laws.{move-cases}
 use Rattle.collection.specs.Steps.{makes, awaited-taken, setup-taken, refused-step, taken-step}
-use Rattle.choices.specs.Tests.{same-or-not}
 use Rattle.collection.specs.declared.Collection.{Collection}
 use Rattle.collection.specs.declared.Next.{Next}
 use Rattle.collection.specs.declared.Next.the-variants.{Send, End as Ends, Refuse}

@@ -10,7 +10,7 @@ use lib.Seq.{take-at, take-add}
 use lib.Dec.{eqb, ltb}
 use borrow.Author.Tests.{eq-eqb, ne-eqb, eqb-true, eqb-false, lt-ltb}
 use Rattle.choices.specs.Choice.{pick}
-use Rattle.choices.specs.Tests.{by-test, clash}
+use Rattle.choices.specs.Tests.{by-test, clash, same-or-not}
 use Rattle.copies.specs.Parts.{zeros, put}
 use Rattle.answers.specs.Answers.{success}
 use Rattle.pages.specs.Pages.{block}
@@ -25,7 +25,6 @@ use Rattle.judgement.specs.Judgement.{newerThan}
 use Rattle.turns.specs.Turns.{followingOf}
 use Rattle.collection.specs.Collection.{awaitedOf, expectedOf, lookOf, refusalOf, sends, ends}
 use Rattle.collection.specs.Steps.{inPhase, endedIn, chunk-good, chunk-refused, ack-done}
-use Rattle.choices.specs.Tests.{same-or-not}
 use Rattle.judgement.specs.declared.Ending.the-variants.{Success}
 use Rattle.collection.specs.declared.Collection.{Collection}
 use Rattle.collection.specs.declared.Next.the-variants.{Send}
