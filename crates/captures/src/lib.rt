@@ -7,10 +7,7 @@ use records::ControllerPage;
 use records::HostPage;
 use records::Record;
 ghost use mathlib.Core.Path.{_≡_};
-ghost use Prim.Native.Nat.{_*_};
-ghost use lib.ListN.{take};
-ghost use Rattle.copies.specs.Parts.{putAt};
-ghost use Rattle.pages.specs.Pages.{block, lastOf, topOf, trimOf};
+ghost use Rattle.pages.specs.Pages.{lastOf, topOf, trimOf};
 ghost use Rattle.captures.specs.Captures.{reasonOf, keptIn, hostTaken, controllerTaken, clearedOf};
 
 // What the record notes of a candidate.
@@ -21,13 +18,14 @@ struct Noted {
 
 // The candidate's first blocks go to the front of the store.
 fn keep(bytes: &[u8], blocks: u32, store: &mut [u8])
-    ensures { λ _. ⌜ now (store .exit) ≡ putAt (now (store .entry)) 0 (take (block * blocks) (now (bytes .entry))) ⌝ }
+    ensures { λ _. ⌜ now (store .exit) ≡ keptIn (now (store .entry)) (now (bytes .entry)) blocks ⌝ }
 {
     let end = pages::in_bytes(blocks);
     let n = choices::pick_usize(end <= bytes.len(), end, bytes.len());
     copies::put(&bytes[0..n], store, 0);
 }
 
+// The candidate's reason, in an array of its own.
 fn reason_of(reason: &[u8]) -> [u8; 128]
     ensures { λ x. ⌜ x ≡ reasonOf (now (reason .entry)) ⌝ }
 {
@@ -36,6 +34,7 @@ fn reason_of(reason: &[u8]) -> [u8; 128]
     out
 }
 
+// What is kept of a candidate: its first blocks in the store, and what the record notes.
 fn kept(caps: Caps, mcda: u32, a: [u32; 4], bytes: &[u8], reason: &[u8], store: &mut [u8]) -> Noted
     ensures { λ x. ⌜ (x ≡ record { last = trimOf caps mcda a; reason = reasonOf (now (reason .entry)) }) × (now (store .exit) ≡ keptIn (now (store .entry)) (now (bytes .entry)) (lastOf (topOf caps mcda) a)) ⌝ }
 {

@@ -2,7 +2,7 @@
 -- Assumes nothing.
 use Prim.Native.Nat.{ℕ, _+_}
 use mathlib.Core.List.{List, [], _++_}
-use mathlib.Core.Bool.{not, _&&_}
+use mathlib.Core.Bool.{Bool, not, _&&_}
 use lib.ListN.{length, drop}
 use lib.Dec.{eqb}
 use Rattle.choices.specs.Choice.{pick}
@@ -100,9 +100,16 @@ before w candidate c = pick (c .create) (hostCaptured w candidate (c .mcda)) w
 unfoldable pub sentOf : World → Command → List ℕ → List ℕ
 sentOf w c buf = windowOf (c .offset) (c .bytes) (pageOf (c .page) w) ++ drop (c .bytes) buf
 
--- on 08h RAE 0 clears after the transfer
+-- on 08h RAE 0 acknowledges
+abbrev pub acknowledges : Command → Bool
+acknowledges c = eqb (c .page) controllerPage && not (c .rae)
+
+abbrev pub cleared : World → World
+cleared w = world (clearedOf (w .own)) (w .host) (w .controller)
+
+-- which clears after the transfer
 unfoldable pub afterwards : World → Command → World
-afterwards w c = pick (eqb (c .page) controllerPage && not (c .rae)) (world (clearedOf (w .own)) (w .host) (w .controller)) w
+afterwards w c = pick (acknowledges c) (cleared w) w
 
 -- what an answer does: success captures, transfers and acknowledges, and anything else changes nothing
 unfoldable pub answered : World → Candidate → Command → List ℕ → ℕ → Outcome

@@ -4,7 +4,7 @@
 use Prim.Native.Nat.{ℕ, _*_}
 use mathlib.Core.Path.{_≡_, refl, sym, ap, subst, _∙_}
 use mathlib.Core.List.{List, []}
-use mathlib.Core.Bool.{Bool, true, false, not, _&&_}
+use mathlib.Core.Bool.{Bool, true, false, not}
 use native.Mathlib.Omega.{arith}
 use lib.ListN.{length, take}
 use lib.Dec.{eqb}
@@ -24,7 +24,7 @@ use Rattle.verdicts.specs.Verdicts.{commandAnswer, captureAnswer}
 use Rattle.verdicts.specs.Accepted.{Whole, Accepted, accepted, Captures, captures}
 use Rattle.captures.specs.Captures.{clearedOf}
 use Rattle.controller.specs.Steps.{create-host, host-stays, captured, no-capture}
-use Rattle.controller.specs.Controller.{World, world, Candidate, hostCaptured, controllerCaptured, outcome, Outcome, classFor, lentBy, before, sentOf, afterwards, answered, commandOf, captureAnswered, captureOf}
+use Rattle.controller.specs.Controller.{World, world, Candidate, hostCaptured, controllerCaptured, outcome, Outcome, classFor, lentBy, acknowledges, cleared, before, sentOf, afterwards, answered, commandOf, captureAnswered, captureOf}
 
 -- what the words say, and the answer to that
 abbrev pub asked : World → Words → Command
@@ -62,7 +62,7 @@ refusal-changes-nothing w candidate words buf n =
 
 done-frame : (P : World → Type 0) (w : World) (candidate : Candidate) (c : Command) → (c .create ≡ true → c .page ≡ hostPage)
     → P w → (c .create ≡ true → P (hostCaptured w candidate (c .mcda)))
-    → (c .page ≡ controllerPage → c .rae ≡ false → P (world (clearedOf (w .own)) (w .host) (w .controller)))
+    → (c .page ≡ controllerPage → c .rae ≡ false → P (cleared w))
     → P (afterwards (before w candidate c) c)
 unfolding afterwards
 done-frame P w candidate c host same made gone =
@@ -70,14 +70,14 @@ done-frame P w candidate c host same made gone =
     (λ t. subst P (sym (captured w candidate c t) ∙ sym (host-stays (before w candidate c) c (host t))) (made t))
     (λ t.
     subst (λ (v : World). P (afterwards v c)) (sym (no-capture w candidate c t))
-    (pick-cases P (eqb (c .page) controllerPage && not (c .rae))
+    (pick-cases P (acknowledges c)
     (λ e. gone (eqb-true _ _ (and-left (eqb (c .page) controllerPage) (not (c .rae)) e)) (not-true (c .rae) (and-right (eqb (c .page) controllerPage) (not (c .rae)) e)))
     (λ e. same)))
 
 pub command-frame : (P : World → Type 0) (w : World) (candidate : Candidate) (words : Words) (buf : List ℕ)
     → P w
     → (Accepted (w .own) (asked w words) (candidate .last) (lentBy w candidate buf) → asked w words .create ≡ true → P (hostCaptured w candidate (asked w words .mcda)))
-    → (Accepted (w .own) (asked w words) (candidate .last) (lentBy w candidate buf) → asked w words .page ≡ controllerPage → asked w words .rae ≡ false → P (world (clearedOf (w .own)) (w .host) (w .controller)))
+    → (Accepted (w .own) (asked w words) (candidate .last) (lentBy w candidate buf) → asked w words .page ≡ controllerPage → asked w words .rae ≡ false → P (cleared w))
     → P (commandOf w candidate words buf .world)
 command-frame P w candidate words buf same made gone =
     same-or-not (verdict w candidate words buf) success
@@ -125,7 +125,7 @@ no-rule da4s = record {
   four-some = λ e. refl;
 }
 
-pub clear-agrees : (w : World) → Agrees w → Agrees (world (clearedOf (w .own)) (w .host) (w .controller))
+pub clear-agrees : (w : World) → Agrees w → Agrees (cleared w)
 unfolding greatestOf
 clear-agrees w g =
     let k = agreed (w .own) (length (w .host)) (length (w .controller)) g in

@@ -3,16 +3,15 @@
 use Prim.Native.Nat.{ℕ, _*_, _≤_}
 use mathlib.Core.Path.{_≡_, refl, sym, ap, subst, _∙_}
 use mathlib.Core.List.{List, []}
-use mathlib.Core.Bool.{Bool, true, false, not, _&&_}
+use mathlib.Core.Bool.{Bool, true, false}
 use native.Mathlib.Omega.{arith}
 use lib.ListN.{length, take}
-use lib.Dec.{eqb}
 use borrow.Author.Tests.{eqb-true, ne-eqb}
 use Rattle.choices.specs.Choice.{pick}
 use Rattle.choices.specs.Tests.{by-test, and-left}
 use Rattle.copies.specs.Parts.{zeros, put-length, put-whole}
 use Rattle.answers.specs.Answers.{success}
-use Rattle.pages.specs.Pages.{hostPage, controllerPage, telemetryPage, block, lastOf, topOf, trimOf, perPage}
+use Rattle.pages.specs.Pages.{hostPage, telemetryPage, block, lastOf, topOf, trimOf, perPage}
 use Rattle.pages.specs.Trimmed.{trim-blocks}
 use Rattle.pages.specs.Laws.{by-page, blocks-greatest}
 use Rattle.words.specs.declared.Command.{Command}
@@ -27,7 +26,7 @@ use Rattle.verdicts.specs.Verdicts.{commandAnswer, captureAnswer}
 use Rattle.verdicts.specs.Accepted.{Whole, Accepted, accepted, captures}
 use Rattle.captures.specs.Captures.{keptIn, reasonOf, controllerTaken, clearedOf}
 use Rattle.controller.specs.declared.Answered.{Answered}
-use Rattle.controller.specs.Controller.{World, world, Candidate, storeFor, pageOf, recordMade, storeMade, hostCaptured, controllerCaptured, outcome, Outcome, classFor, lentBy, before, sentOf, afterwards, answered, commandOf, captureAnswered, captureOf}
+use Rattle.controller.specs.Controller.{World, world, Candidate, storeFor, pageOf, recordMade, storeMade, hostCaptured, controllerCaptured, outcome, Outcome, classFor, lentBy, acknowledges, before, sentOf, afterwards, answered, commandOf, captureAnswered, captureOf}
 
 -- ---- what the words say of create
 
@@ -140,7 +139,7 @@ pub served-is : (w : World) (candidate : Candidate) (c : Command) (buf : List �
     → x ≡ success → Accepted (w .own) c (candidate .last) (lentBy w candidate buf) → (c .create ≡ true → c .page ≡ hostPage)
     → (next ≡ recordMade (w .own) c (candidate .last) (candidate .reason)) × (h ≡ storeMade (w .own) c (candidate .last) (candidate .bytes) (w .host))
     → b ≡ servedInto (headerOf (fieldsFor (c .page) next)) (perPage (c .page) h (w .controller)) (blocksFor (c .page) next) (c .offset) (c .bytes) buf
-    → after ≡ pick (eqb (c .page) controllerPage && not (c .rae)) (clearedOf next) next
+    → after ≡ pick (acknowledges c) (clearedOf next) next
     → y ≡ record { answer = x; class = 0; own = after }
     → outcome (y .answer) (y .class) (world (y .own) h (w .controller)) b ≡ answered w candidate c buf x
 unfolding afterwards
@@ -149,7 +148,7 @@ served-is w candidate c buf x y {next = next} {after = after} {h = h} {b = b} z 
     let ev : v ≡ before w candidate c = rw (em .0, em .1) (made-is w candidate c buf g) in
     let fits : Fits (c .page) v = subst (λ (u : World). Fits (c .page) u) (sym ev) (made-fits w candidate c buf g host) in
     let ew : world after h (w .controller) ≡ afterwards v c =
-    rw ea (by-test (eqb (c .page) controllerPage && not (c .rae)) (λ t. rw t) (λ t. rw t)) in
+    rw ea (by-test (acknowledges c) (λ t. rw t) (λ t. rw t)) in
     done-is w candidate c buf b x (world after h (w .controller)) y z ey
     (ew ∙ ap (λ (u : World). afterwards u c) ev)
     (sent-is v c (c .page) buf b refl fits (g .room) eb ∙ ap (λ (u : World). sentOf u c buf) ev)

@@ -9,12 +9,9 @@ use words::Command;
 use words::Words;
 ghost use mathlib.Core.Path.{_≡_};
 ghost use mathlib.Core.List.{[]};
-ghost use mathlib.Core.Bool.{not, _&&_};
 ghost use Rattle.choices.specs.Choice.{pick};
-ghost use lib.Dec.{eqb};
-ghost use Rattle.pages.specs.Pages.{controllerPage};
 ghost use Rattle.captures.specs.Captures.{clearedOf};
-ghost use Rattle.controller.specs.Controller.{recordMade, storeMade, classFor, world, candidateOf, outcome, commandOf, captureOf};
+ghost use Rattle.controller.specs.Controller.{recordMade, storeMade, acknowledges, classFor, world, candidateOf, outcome, commandOf, captureOf};
 
 // The answer, with the identifier's class where it is 2 (else 0), and the record afterwards.
 pub struct Answered {
@@ -42,7 +39,7 @@ fn created(
 
 // On 08h RAE 0 clears after the transfer.
 fn acknowledged(r: Record, c: Command) -> Record
-    ensures { λ x. ⌜ x ≡ pick (eqb (c .page) controllerPage && not (c .rae)) (clearedOf r) r ⌝ }
+    ensures { λ x. ⌜ x ≡ pick (acknowledges c) (clearedOf r) r ⌝ }
 {
     let clears = (c.page == pages::CONTROLLER) & !c.rae;
     if clears {

@@ -22,15 +22,11 @@ use Rattle.verdicts.specs.Verdicts.{captureAnswer}
 use Rattle.plans.specs.declared.Plan.{Plan}
 use Rattle.plans.specs.Plans.{setupAnswer, areaBytes}
 use Rattle.completions.specs.Completions.{showsNone}
-use Rattle.captures.specs.Captures.{clearedOf}
-use Rattle.controller.specs.Controller.{World, world, Candidate, Outcome, storeFor, hostCaptured, controllerCaptured, before, afterwards, captureOf, captureAnswered, lentBy}
+use Rattle.controller.specs.Controller.{World, world, Candidate, Outcome, storeFor, hostCaptured, controllerCaptured, acknowledges, cleared, before, afterwards, captureOf, captureAnswered, lentBy}
 use Rattle.controller.specs.Steps.{create-host, host-stays, captured, no-capture}
 use Rattle.controller.specs.Laws.{asked, verdict, command-done, command-refused, command-agrees, command-typed, captured-agrees, captured-typed}
 use Rattle.demand3.specs.Bench.{Event, Sent, Taken, actOf, one, capturesOf}
 use Rattle.demand3.specs.Shown.{generationFor, showsFor, wantedArea, Good, plan-page, area-stored}
-
-abbrev cleared : World → World
-cleared w = world (clearedOf (w .own)) (w .host) (w .controller)
 
 -- ---- by cases, each with the number of captures it makes on a page
 
@@ -48,7 +44,7 @@ module _ (Q : World → ℕ → Type 0) (page : ℕ) (w : World) where
       (λ t.
       subst (λ (v : World). Q (afterwards v c) (one (eqb page hostPage && c .create && true))) (sym (no-capture w candidate c t))
       (subst (λ (n : ℕ). Q (afterwards w c) n) (none (eqb page hostPage) (c .create) t)
-      (pick-cases (λ (v : World). Q v 0) (eqb (c .page) controllerPage && not (c .rae))
+      (pick-cases (λ (v : World). Q v 0) (acknowledges c)
       (λ e. gone (eqb-true _ _ (and-left (eqb (c .page) controllerPage) (not (c .rae)) e)))
       (λ e. same))))
     where
