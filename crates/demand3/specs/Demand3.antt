@@ -4,6 +4,7 @@ use Prim.Native.Nat.{ℕ, _+_, _-_, _*_, _≤_, _<_}
 use mathlib.Core.Path.{_≡_, subst, ap}
 use mathlib.Core.List.{List, _++_}
 use mathlib.Core.Bool.{true, false}
+use native.Mathlib.Omega.{arith}
 use lib.ListN.{length}
 use lib.Dec.{ltb, eqb}
 use borrow.Author.Tests.{eqb-true}
@@ -15,6 +16,7 @@ use Rattle.records.specs.Records.{controllerFields, fieldsFor}
 use Rattle.records.specs.Back.{Typed}
 use Rattle.plans.specs.declared.Plan.{Plan}
 use Rattle.plans.specs.declared.Phase.the-variants.{First}
+use Rattle.plans.specs.Limits.{plan-limits}
 use Rattle.plans.specs.Plans.{setupAnswer, areaLast, wordsBy}
 use Rattle.completions.specs.Completions.{showsNone}
 use Rattle.judgement.specs.Endings.{numberOf, newerOf}
@@ -23,7 +25,8 @@ use Rattle.collection.specs.declared.Next.the-variants.{End as Ends, Refuse}
 use Rattle.verdicts.specs.Accepted.{unless-disagree}
 use Rattle.controller.specs.Controller.{World, lentBy}
 use Rattle.controller.specs.Laws.{asked, command-answer}
-use Rattle.sources.specs.Source.{Turn, Stand, forLent, collected}
+use Rattle.runs.specs.Run.{mostChunks}
+use Rattle.sources.specs.Source.{Collector, ours, Turn, Stand, forLent, collected}
 use Rattle.sources.specs.Promise.{Told, succeeded, lacked, withdrew, empty, mostCommands, Finished}
 use Rattle.sources.specs.Demand.{demand, first-fair}
 use Rattle.demand3.specs.Bench.{Loan, ownOf, controllerSource}
@@ -31,11 +34,11 @@ use Rattle.demand3.specs.Shown.{showsFor, wantedArea, Good}
 use Rattle.demand3.specs.Own.{not-four}
 use Rattle.demand3.specs.Instance.{controllerKeeps}
 
--- A run: a collection of plan p into this copy, from the controller as it stands in w; its first command with what it is lent, and then turns, each
--- of any events and a command with what that is lent.
-module _ (p : Plan) (copy : List ℕ) (w : World) (first : Loan) (ts : List (Turn (controllerSource (p .page)))) where
+-- A run: a collection of plan p by the collector c into this copy, from the controller as it stands in w; its first command with what it is lent, and
+-- then turns, each of any events and a command with what that is lent.
+module _ (c : Collector) (p : Plan) (copy : List ℕ) (w : World) (first : Loan) (ts : List (Turn (controllerSource (p .page)))) where
   unfoldable pub final : Stand (controllerSource (p .page))
-  final = collected (controllerSource (p .page)) p copy w first ts
+  final = collected c (controllerSource (p .page)) p copy w first ts
 
   -- ---- what is asked of it
 
@@ -46,8 +49,7 @@ module _ (p : Plan) (copy : List ℕ) (w : World) (first : Loan) (ts : List (Tur
     pub room : length copy ≡ p .room
     -- what the types say of the record
     pub typed : Typed (w .own)
-    -- at most k captures of the page after the first command, k at most 255, and more than k attempts
-    pub few : k ≤ 255
+    -- at most k captures of the page after the first command, and more than k attempts
     pub attempts : k < p .attempts
     pub captures : final .counts .captures ≤ k
     -- none of the run's commands was answered 3, 4 or 5
@@ -70,29 +72,33 @@ module _ (p : Plan) (copy : List ℕ) (w : World) (first : Loan) (ts : List (Tur
     -- the reported count is the number of commands in the run's record
     pub counted : final .collection .count ≡ length (final .sent)
     pub says : (e : Finish) → final .said ≡ Ends e → e .count ≡ length (final .sent)
-    -- it is within 1 + (k + 1)(C + 1), one more on 08h, C being the most chunks that an attempt's header called for, and also with C at the house
-    -- limit
-    pub bounded : final .collection .count ≤ mostCommands p k (final .most)
+    -- it is within 1 + (k + 1)(C + 1), one more on 08h, C being the most chunks that the data of a judged header calls for, and also with C at the
+    -- house limit
+    pub bounded : final .collection .count ≤ mostCommands p k (mostChunks p (final .headers))
     pub limited : final .collection .count ≤ mostCommands p k most4
     -- and so many completions end the run
-    pub ends : mostCommands p k (final .most) ≤ 1 + length ts → Finished (controllerSource (p .page)) final
+    pub ends : mostCommands p k (mostChunks p (final .headers)) ≤ 1 + length ts → Finished (controllerSource (p .page)) final
     pub ends-limited : mostCommands p k most4 ≤ 1 + length ts → Finished (controllerSource (p .page)) final
     -- never 13, 14 or 15
     pub never : (n : ℕ) → final .said ≡ Refuse n → ⊥
     -- every ending is one of the four, and true
     pub ended : (e : Finish) → final .said ≡ Ends e → TrueEnding e (final .checked)
 
-  -- ---- the theorem
+-- ---- the theorem, of our collector
+
+module _ (p : Plan) (copy : List ℕ) (w : World) (first : Loan) (ts : List (Turn (controllerSource (p .page)))) where
+  abbrev end : Stand (controllerSource (p .page))
+  end = final ours p copy w first ts
 
   -- a header of 08h that shows no data
-  none-shown : showsNone p (showsFor (p .page) (final .checked)) ≡ true → (p .page ≡ controllerPage) × (final .checked .own .controller .tcda ≡ 0)
+  none-shown : showsNone p (showsFor (p .page) (end .checked)) ≡ true → (p .page ≡ controllerPage) × (end .checked .own .controller .tcda ≡ 0)
   unfolding showsFor fieldsFor controllerFields
   none-shown n =
       let q = eqb-true (p .page) controllerPage (and-left (eqb (p .page) controllerPage) _ n) in
-      let z = eqb-true _ 0 (and-right (eqb (p .page) controllerPage) (eqb (fieldsFor (p .page) (final .checked .own) .tcda) 0) n) in
-      (q, subst (λ (page : ℕ). fieldsFor page (final .checked .own) .tcda ≡ 0) q z)
+      let z = eqb-true _ 0 (and-right (eqb (p .page) controllerPage) (eqb (fieldsFor (p .page) (end .checked .own) .tcda) 0) n) in
+      (q, subst (λ (page : ℕ). fieldsFor page (end .checked .own) .tcda ≡ 0) q z)
 
-  told : (e : setupAnswer p ≡ success) (x : Finish) → Told (controllerSource (p .page)) p (controllerKeeps p e) x final → TrueEnding x (final .checked)
+  told : (e : setupAnswer p ≡ success) (x : Finish) → Told (controllerSource (p .page)) p (controllerKeeps p e) x end → TrueEnding ours p copy w first ts x (end .checked)
   unfolding controllerKeeps showsFor
   told e x (succeeded a c l) = succeeded-by (ap numberOf a) c (ap newerOf a)
   told e x (lacked a c r) = room-short (ap numberOf a) c r
@@ -100,7 +106,7 @@ module _ (p : Plan) (copy : List ℕ) (w : World) (first : Loan) (ts : List (Tur
   told e x (empty a c n t) = let q = none-shown n in never-there (ap numberOf a) c (q .0) (q .1) t
 
   -- a first command that is not answered 4 finds an agreeing controller
-  good : (k : ℕ) → Asked k → Good p w
+  good : (k : ℕ) → Asked ours p copy w first ts k → Good p w
   unfolding final ownOf
   good k a =
       let words = wordsBy First p (zeros 4) in
@@ -114,10 +120,10 @@ module _ (p : Plan) (copy : List ℕ) (w : World) (first : Loan) (ts : List (Tur
         caps = a .caps;
       }
 
-  pub demand3 : (k : ℕ) → Asked k → Demand3 k
+  pub demand3 : (k : ℕ) → Asked ours p copy w first ts k → Demand3 ours p copy w first ts k
   unfolding controllerKeeps final
   demand3 k a =
-      let d = demand (controllerSource (p .page)) p (controllerKeeps p (a .taken)) copy w first ts (a .taken) (a .room) (good k a) k (a .few) (a .attempts) (a .captures) (a .spared) in
+      let d = demand (controllerSource (p .page)) p (controllerKeeps p (a .taken)) copy w first ts (a .taken) (a .room) (good k a) k (omega (arith, a .attempts, plan-limits p (a .taken) .attempts-high)) (a .attempts) (a .captures) (a .spared) in
       let r = d .0 in
       record {
         counted = r .counted;

@@ -5,4 +5,3 @@ pub mod Events
 pub mod Own
 pub mod Instance
 pub mod Demand3
-pub mod Example

@@ -16,6 +16,9 @@ use Rattle.records.specs.declared.Record.{Record}
 use Rattle.records.specs.Records.{identityOk, storeOk, controllerOk, agreesWith, hostFields, controllerFields, fieldsFor}
 use Rattle.serving.specs.Serving.{windowOf, pageBytes}
 use Rattle.verdicts.specs.Verdicts.{candidateOk, fieldBad, lastAfter, commandAnswer}
+use Rattle.plans.specs.Plans.{setupAnswer, wordsBy}
+use Rattle.collection.specs.Collection.{awaitedOf, setupOf}
+use Rattle.collection.specs.declared.Next.the-variants.{Send}
 use Rattle.controller.specs.Controller.{World, world, candidateOf, pageOf, hostCaptured, before, sentOf, afterwards, answered, commandOf}
 
 -- ---- the world of the rows
@@ -53,12 +56,12 @@ pub data Row : Type 0 where
   reads : ℕ → ℕ → ℕ → List ℕ → Row
   -- a capture on 07h takes one generation to another
   counts : ℕ → ℕ → Row
-  -- a capture under these capabilities and this MCDA stores, of a candidate's last blocks, these
-  stores : Caps → ℕ → List ℕ → List ℕ → Row
+  -- a create with this CDW10, under these capabilities, stores these last blocks of the candidate (2,2,5,9)
+  stores : Caps → ℕ → List ℕ → Row
   -- a create with this CDW10 and these capabilities is answered this
   creates : Caps → ℕ → ℕ → Row
-  -- the header's first word on 07h: create or not, MCDA, and CDW10
-  firstWord : Bool → ℕ → ℕ → Row
+  -- the first command of a collection of 07h with create, under these capabilities, of this area: CDW10
+  firstWord : Caps → ℕ → ℕ → Row
 
 -- what a row says
 abbrev pub Says : Row → Type 0
@@ -69,10 +72,14 @@ Says (counts old new) =
     commandOf (world (own (capable false false false) (zeros 4) old) [] []) (candidateOf (zeros 4) [] (zeros 128)) (words 0x007F8107 0) (replicate 512 9)
     .world .own .host .generation
     ≡ new
-Says (stores caps mcda last stored) = trimOf caps mcda last ≡ stored
+Says (stores caps cdw10 stored) =
+    commandOf (world (own caps (zeros 4) 0) (zeros 4608) []) (candidateOf (2 ∷ 2 ∷ 5 ∷ 9 ∷ []) (replicate 4608 7) (zeros 128)) (words cdw10 0) (replicate 512 9)
+    .world .own .host .last
+    ≡ stored
 Says (creates caps cdw10 answer) =
     commandOf (world (own caps (zeros 4) 0) [] []) (candidateOf (2 ∷ 2 ∷ 5 ∷ 9 ∷ []) [] []) (words cdw10 0) [] .answer ≡ answer
-Says (firstWord create mcda cdw10) = builtOf hostPage create mcda true 0 1 .words .cdw10 ≡ cdw10
+Says (firstWord caps area cdw10) =
+    setupOf (record { page = hostPage; create = true; area = area; chunk = 1; attempts = 1; room = 0; caps = caps }) .next ≡ Send (words cdw10 0)
 
 -- what all rows of a list say
 abbrev pub All : List Row → Type 0
@@ -87,15 +94,16 @@ rows =
     ∷ reads 0x00FF8007 2560 0 (replicate 512 5 ++ zeros 512)
     ∷ reads 0x007E8007 0 1 (replicate 1024 9)
     ∷ counts 255 0
-    ∷ stores (capable true true true) 2 (2 ∷ 2 ∷ 5 ∷ 9 ∷ []) (2 ∷ 2 ∷ 2 ∷ 2 ∷ [])
-    ∷ stores (capable true true true) 0 (2 ∷ 2 ∷ 5 ∷ 9 ∷ []) (2 ∷ 2 ∷ 5 ∷ 9 ∷ [])
+    ∷ stores (capable true true true) 0x007F8507 (2 ∷ 2 ∷ 2 ∷ 2 ∷ [])
+    ∷ stores (capable true true true) 0x007F8107 (2 ∷ 2 ∷ 5 ∷ 9 ∷ [])
     ∷ creates (capable true true true) 0x007F8B07 1
-    ∷ stores (capable false true true) 0 (2 ∷ 2 ∷ 5 ∷ 9 ∷ []) (2 ∷ 2 ∷ 5 ∷ 0 ∷ [])
-    ∷ firstWord true 3 0x007F8707
+    ∷ stores (capable false true true) 0x007F8107 (2 ∷ 2 ∷ 5 ∷ 0 ∷ [])
+    ∷ firstWord (capable false false true) 3 0x007F8707
     ∷ []
 
 pub rows-hold : All rows
 unfolding
     holds putAt lastOk greatestOf blocksOf sizeOf topOf trimmedTo trimOf taken builtOf headerOf identityOk storeOk controllerOk agreesWith hostFields controllerFields fieldsFor
-    windowOf pageBytes candidateOk fieldBad lastAfter commandAnswer pageOf hostCaptured before sentOf afterwards answered commandOf
+    windowOf pageBytes candidateOk fieldBad lastAfter commandAnswer pageOf hostCaptured before sentOf afterwards answered commandOf setupAnswer wordsBy awaitedOf
+    setupOf
 rows-hold = ((refl, refl), ((refl, refl), ((refl, refl), ((refl, refl), ((refl, refl), (refl, (refl, (refl, (refl, (refl, (refl, tt)))))))))))

@@ -4,18 +4,21 @@
 -- Assumes nothing.
 use Prim.Native.Nat.{ℕ, _+_, _-_, _*_, _≤_, _<_}
 use mathlib.Core.Path.{_≡_, refl, sym, _∙_}
-use mathlib.Core.List.{List, [], _∷_}
-use mathlib.Core.Bool.{Bool, true, false, not}
+use mathlib.Core.List.{List, [], _∷_, _++_}
+use mathlib.Core.Bool.{Bool, true, false, not, _&&_}
 use native.Mathlib.Omega.{arith}
 use native.Mathlib.Nat.{add-mul, mul-add, mul-le-mul-left, mul-le-mul-right, div-eq-sub-div, div-lt-iff-lt-mul}
 use lib.ListN.{length}
 use lib.Dec.{leb, eqb}
 use borrow.Author.Tests.{le-leb, eq-eqb}
 use Rattle.choices.specs.Choice.{pick, pick-cases, larger-left, larger-right, firstThat}
-use Rattle.choices.specs.Tests.{holds, clash, same-or-not}
+use Rattle.choices.specs.Tests.{holds, each, by-test, and-right, clash, same-or-not}
 use Rattle.answers.specs.Answers.{success, badSetup, alreadyEnded, doesNotFit}
 use Rattle.copies.specs.Parts.{zeros}
-use Rattle.pages.specs.Pages.{controllerPage, most4, lastOf}
+use Rattle.pages.specs.Pages.{controllerPage, block, most4, lastOf}
+use Rattle.pages.specs.Trimmed.{LastRule, last-rule}
+use Rattle.header.specs.Header.{lastAt, fieldsOf, fieldsOk, faultless, noFields, checkOf}
+use Rattle.header.specs.Faults.{faultless-header}
 use Rattle.plans.specs.declared.Plan.{Plan}
 use Rattle.plans.specs.declared.Phase.{Phase}
 use Rattle.plans.specs.declared.Phase.the-variants.{First, Chunk, Close, Ack, Ended}
@@ -25,13 +28,14 @@ use Rattle.judgement.specs.declared.Ending.the-variants.{Success, NoRoom}
 use Rattle.judgement.specs.declared.Move.{Move}
 use Rattle.judgement.specs.declared.Move.the-variants.{End, Open, More, Skip, Acknowledge}
 use Rattle.plans.specs.Limits.{plan-limits, area-limit, chunk-inside}
-use Rattle.plans.specs.Phases.{endedBy, closingBy, silentBy, closing-is}
+use Rattle.plans.specs.Phases.{judgedBy, endedBy, closingBy, silentBy, closing-is}
 use Rattle.plans.specs.Plans.{setupAnswer, areaLast, fitsRoom, insideBy, withinBy, phaseAt}
+use Rattle.completions.specs.Completions.{seenOf, lookBy}
 use Rattle.collection.specs.Collection.{mostCount, validState, completionFits, lookOf, refusalOf, moveOf, setupOf, answerOf}
 use Rattle.collection.specs.Laws.{move-cases}
 use Rattle.collection.specs.Steps.{makes, setup-taken, refused-step, taken-step}
 use Rattle.collection.specs.declared.Collection.{Collection}
-use Rattle.runs.specs.Run.{Completion, stepBy, after, stateOf, chunksFrom, chunksOf, mostChunks, acknowledging, fitting}
+use Rattle.runs.specs.Run.{Completion, stepBy, after, stateOf, chunksFrom, chunksOf, calledFor, mostChunks, headersOf, acknowledging, fitting}
 use Rattle.runs.specs.Counted.{step-counts, plan-stays}
 
 -- ---- chunks
@@ -111,10 +115,10 @@ unfolding phaseAt
 at-few at most n t p last h =
     pick-cases (λ (f : Phase). n + dueBy f most p last ≤ extraBy f p + t) (leb at (areaLast p last)) (λ e. h) (λ e. omega arith)
 
--- what a move leads to, where the header of the state after it calls for at most most chunks
+-- what a move leads to, where a judged header that fits the copy calls for at most most chunks
 abbrev Leads : ℕ → Collection → Seen → Move → Type 0
 Leads most s h m =
-    (fitsRoom (s .plan) (makes s h m .state .attempt .last) ≡ true → chunksOf (s .plan) (makes s h m .state .attempt .last) ≤ most)
+    (judgedBy (s .phase) ≡ true → fitsRoom (s .plan) (h .last) ≡ true → chunksOf (s .plan) (h .last) ≤ most)
     → Reached most (makes s h m .state)
 
 module _ (most : ℕ) (s : Collection) (h : Seen) (r : Reached most s) where
@@ -140,7 +144,7 @@ module _ (most : ℕ) (s : Collection) (h : Seen) (r : Reached most s) where
   unfolding makes
   first f w c =
       let n : s .count + (most + 1) ≤ 1 + s .attempt .number * (most + 1) = rw f at (r .few) in
-      let k = c w in
+      let k = c (rw f) w in
       record {
         plan = r .plan;
         low = r .low;
@@ -155,7 +159,7 @@ module _ (most : ℕ) (s : Collection) (h : Seen) (r : Reached most s) where
   again f l w c =
       let n = few-closing (s .phase) most (s .count) (s .attempt .number * (most + 1)) (s .plan) (s .attempt .last) f (r .few) in
       let a = add-mul (s .attempt .number) 1 (most + 1) in
-      let k = c w in
+      let k = c (rw (closing-is (s .phase) f .is)) w in
       record {
         plan = r .plan;
         low = omega arith;
@@ -221,14 +225,26 @@ reached-more most more s l r = record {
   few = few-more (s .phase) most more (s .count) (s .attempt .number) (s .plan) (s .attempt .last) l (r .low) (r .few);
 }
 
+-- where a header is judged, the data is looked at as one
+pub look-header : (f : Phase) (p : Plan) (d : List ℕ) → judgedBy f ≡ true → lookBy f p d ≡ seenOf p d
+unfolding lookBy
+look-header First p d e = refl
+look-header (Chunk at) p d e = clash {t = true} refl (sym e)
+look-header (Close after) p d e = refl
+look-header Ack p d e = clash {t = true} refl (sym e)
+look-header Ended p d e = clash {t = true} refl (sym e)
+
+-- a step keeps it, where a header that it judges calls for at most most chunks
 pub step-reached : (most : ℕ) (s : Collection) (k : Completion) → Reached most s
-    → (fitsRoom (s .plan) (stepBy s k .state .attempt .last) ≡ true → chunksOf (s .plan) (stepBy s k .state .attempt .last) ≤ most)
+    → (refusalOf s (k .ok) (length (k .bytes)) (k .copy) ≡ success → judgedBy (s .phase) ≡ true → fitsRoom (s .plan) (seenOf (s .plan) (k .bytes) .last) ≡ true
+    → calledFor (s .plan) (k .bytes) ≤ most)
     → Reached most (stepBy s k .state)
+unfolding lookOf
 step-reached most s k r c =
     same-or-not (refusalOf s (k .ok) (length (k .bytes)) (k .copy)) success
     (λ e.
-    let q = taken-step s (k .ok) (k .bytes) (k .copy) e in
-    rw q (leads most s (lookOf s (k .bytes)) r (k .ok) (rw q at c)))
+    rw (taken-step s (k .ok) (k .bytes) (k .copy) e)
+    (leads most s (lookOf s (k .bytes)) r (k .ok) (λ j. let q = look-header (s .phase) (s .plan) (k .bytes) j in rw q (c e j))))
     (λ e. rw (refused-step s (k .ok) (k .bytes) (k .copy) e) r)
 
 -- ---- runs
@@ -239,12 +255,6 @@ no-area area =
     pick-cases (λ (x : ℕ). x ≡ 0) (eqb area 1) (λ e. refl)
     (λ e. pick-cases (λ (x : ℕ). x ≡ 0) (eqb area 2) (λ f. refl) (λ f. pick-cases (λ (x : ℕ). x ≡ 0) (eqb area 3) (λ g. refl) (λ g. refl)))
 
--- the most chunks are no less than those of the state's own header
-most-first : (s : Collection) (ks : List Completion) → chunksOf (s .plan) (s .attempt .last) ≤ mostChunks s ks
-unfolding mostChunks
-most-first s [] = omega arith
-most-first s (k ∷ ks) = larger-left (chunksOf (s .plan) (s .attempt .last)) (mostChunks (stepBy s k .state) ks)
-
 pub begins : (most : ℕ) (p : Plan) → setupAnswer p ≡ success → Reached most (setupOf p .state)
 unfolding fitsRoom
 begins most p e =
@@ -252,15 +262,22 @@ begins most p e =
     let z = no-area (p .area) in
     rw (setup-taken p e) (record { plan = e; low = omega arith; high = l .attempts-low; room = rw z (le-leb 0 (p .room) (omega arith)); inside = refl; few = omega arith })
 
-pub run-reached : (most : ℕ) (s : Collection) (ks : List Completion) → Reached most s → mostChunks s ks ≤ most → Reached most (after s ks)
-unfolding after mostChunks
+pub run-reached : (most : ℕ) (s : Collection) (ks : List Completion) → Reached most s → mostChunks (s .plan) (headersOf s ks) ≤ most → Reached most (after s ks)
+unfolding after headersOf mostChunks
 run-reached most s [] r c = r
 run-reached most s (k ∷ ks) r c =
     let p = step-counts s (k .ok) (k .bytes) (k .copy) .plan in
-    let l = larger-right (chunksOf (s .plan) (s .attempt .last)) (mostChunks (stepBy s k .state) ks) in
-    let f = most-first (stepBy s k .state) ks in
-    let g : chunksOf (s .plan) (stepBy s k .state .attempt .last) ≤ mostChunks (stepBy s k .state) ks = rw p at f in
-    run-reached most (stepBy s k .state) ks (step-reached most s k r (λ w. omega arith)) (omega arith)
+    run-reached most (stepBy s k .state) ks
+    (step-reached most s k r (λ e j w.
+    let a : mostChunks (s .plan) (k .bytes ∷ headersOf (stepBy s k .state) ks) ≤ most = rw (j, eq-eqb _ success e) at c in
+    let l = larger-left (calledFor (s .plan) (k .bytes)) (mostChunks (s .plan) (headersOf (stepBy s k .state) ks)) in
+    omega arith))
+    (rw p (later (judgedBy (s .phase) && eqb (refusalOf s (k .ok) (length (k .bytes)) (k .copy)) success) c))
+  where
+    later : (t : Bool) → mostChunks (s .plan) (pick t (k .bytes ∷ []) [] ++ headersOf (stepBy s k .state) ks) ≤ most
+        → mostChunks (s .plan) (headersOf (stepBy s k .state) ks) ≤ most
+    later true l = let r = larger-right (calledFor (s .plan) (k .bytes)) (mostChunks (s .plan) (headersOf (stepBy s k .state) ks)) in omega arith
+    later false l = l
 
 -- no header that fits the largest copy calls for more chunks than the house limit has blocks
 house-limit : (p : Plan) (last : List ℕ) → setupAnswer p ≡ success → fitsRoom p last ≡ true → chunksOf p last ≤ most4
@@ -271,12 +288,16 @@ house-limit p last e w =
     omega arith
 
 pub step-house : (s : Collection) (k : Completion) → Reached most4 s → Reached most4 (stepBy s k .state)
-step-house s k r = step-reached most4 s k r (λ w. house-limit (s .plan) (stepBy s k .state .attempt .last) (r .plan) w)
+step-house s k r = step-reached most4 s k r (λ e j w. house-limit (s .plan) (seenOf (s .plan) (k .bytes) .last) (r .plan) w)
 
 pub run-house : (s : Collection) (ks : List Completion) → Reached most4 s → Reached most4 (after s ks)
 unfolding after
 run-house s [] r = r
 run-house s (k ∷ ks) r = run-house (stepBy s k .state) ks (step-house s k r)
+
+-- C: the most chunks that any header of the run calls for
+abbrev pub chunksIn : Plan → List Completion → ℕ
+chunksIn p ks = mostChunks p (headersOf (setupOf p .state) ks)
 
 -- the commands sent by an attempt
 pub reached-count : (most : ℕ) (s : Collection) → Reached most s → s .count ≤ 1 + s .attempt .number * (most + 1) + acknowledging (s .plan)
@@ -307,11 +328,12 @@ never-13 p ks e = reached-ok (stateOf p ks) (run-house (setupOf p .state) ks (be
 -- Whatever completes the commands, a run sends at most 1 + attempts·(C + 1) of them, one more on 08h, C being the most chunks that any of its
 -- headers calls for.
 pub few-commands : (p : Plan) (ks : List Completion) → setupAnswer p ≡ success
-    → stateOf p ks .count ≤ 1 + p .attempts * (mostChunks (setupOf p .state) ks + 1) + acknowledging p
+    → stateOf p ks .count ≤ 1 + p .attempts * (chunksIn p ks + 1) + acknowledging p
 few-commands p ks e =
-    let most = mostChunks (setupOf p .state) ks in
-    let n = reached-most most (stateOf p ks) (run-reached most (setupOf p .state) ks (begins most p e) (omega arith)) in
-    let q : stateOf p ks .plan ≡ p = plan-stays (setupOf p .state) ks ∙ rw (setup-taken p e) in
+    let most = chunksIn p ks in
+    let b : setupOf p .state .plan ≡ p = rw (setup-taken p e) in
+    let n = reached-most most (stateOf p ks) (run-reached most (setupOf p .state) ks (begins most p e) (rw b (omega arith))) in
+    let q : stateOf p ks .plan ≡ p = plan-stays (setupOf p .state) ks ∙ b in
     rw q at n
 
 -- ---- every completion that fits brings a run nearer to its end
@@ -380,7 +402,7 @@ fitting-counts s (k ∷ ks) r g =
 -- No controller can keep a collection from ending: 1 + attempts·(C + 1) completions that fit the awaited command, one more on 08h, end it,
 -- whatever they are.
 pub ends : (p : Plan) (ks : List Completion) → setupAnswer p ≡ success
-    → 1 + p .attempts * (mostChunks (setupOf p .state) ks + 1) + acknowledging p ≤ fitting (setupOf p .state) ks
+    → 1 + p .attempts * (chunksIn p ks + 1) + acknowledging p ≤ fitting (setupOf p .state) ks
     → endedBy (stateOf p ks .phase) ≡ true
 ends p ks e l = by (endedBy (stateOf p ks .phase)) refl
   where
@@ -392,23 +414,41 @@ ends p ks e l = by (endedBy (stateOf p ks .phase)) refl
         let o : setupOf p .state .count ≡ 1 = rw (setup-taken p e) in
         absurd (omega arith)
 
-house-chunks : (s : Collection) (ks : List Completion) → Reached most4 s → mostChunks s ks ≤ most4
+-- a header that is not bad keeps the rule of last blocks, and a bad one shows none
+last-limit : (da4s : Bool) (area : ℕ) (a : List ℕ) → LastRule da4s a → lastOf area a ≤ most4
+last-limit da4s area a r =
+    pick-cases (λ (x : ℕ). x ≤ most4) (eqb area 1) (λ e. omega (arith, r .one-two, r .two-three, r .three-most))
+    (λ e. pick-cases (λ (x : ℕ). x ≤ most4) (eqb area 2) (λ f. omega (arith, r .two-three, r .three-most))
+    (λ f. pick-cases (λ (x : ℕ). x ≤ most4) (eqb area 3) (λ g. omega (arith, r .three-most)) (λ g. r .four-most)))
+
+header-limit : (p : Plan) (d : List ℕ) → areaLast p (seenOf p d .last) ≤ most4
+unfolding seenOf checkOf noFields fieldsOk
+header-limit p d =
+    let good = faultless-header (p .page) (p .caps .da4s) d in
+    by-test (faultless (checkOf (p .page) (p .caps .da4s) d .fault))
+    (λ t.
+    let ok : fieldsOk (p .page) (p .caps .da4s) (fieldsOf (p .page) d) ≡ true = and-right (eqb (length d) block) _ (sym good ∙ t) in
+    rw t (last-limit (p .caps .da4s) (p .area) (lastAt d) (last-rule (p .caps .da4s) (lastAt d) (each _ ok 1))))
+    (λ t. let z = no-area (p .area) in rw t (omega arith))
+
+house-chunks : (p : Plan) (ds : List (List ℕ)) → setupAnswer p ≡ success → mostChunks p ds ≤ most4
 unfolding mostChunks
-house-chunks s [] r = house-limit (s .plan) (s .attempt .last) (r .plan) (r .room)
-house-chunks s (k ∷ ks) r =
-    let a = house-limit (s .plan) (s .attempt .last) (r .plan) (r .room) in
-    let b = house-chunks (stepBy s k .state) ks (step-house s k r) in
-    pick-cases (λ (x : ℕ). x ≤ most4) (leb (chunksOf (s .plan) (s .attempt .last)) (mostChunks (stepBy s k .state) ks)) (λ t. b) (λ t. a)
+house-chunks p [] e = omega arith
+house-chunks p (d ∷ ds) e =
+    let a = chunks-few (p .chunk) (areaLast p (seenOf p d .last)) (plan-limits p e .chunk-low) in
+    let l = header-limit p d in
+    let b = house-chunks p ds e in
+    pick-cases (λ (x : ℕ). x ≤ most4) (leb (calledFor p d) (mostChunks p ds)) (λ t. b) (λ t. omega arith)
 
 -- And C is 1,048,576 at most.
-pub chunks-limited : (p : Plan) (ks : List Completion) → setupAnswer p ≡ success → mostChunks (setupOf p .state) ks ≤ most4
-chunks-limited p ks e = house-chunks (setupOf p .state) ks (begins most4 p e)
+pub chunks-limited : (p : Plan) (ks : List Completion) → setupAnswer p ≡ success → chunksIn p ks ≤ most4
+chunks-limited p ks e = house-chunks p (headersOf (setupOf p .state) ks) e
 
 -- So there is a number of completions that ends any run with these attempts, from any controller.
 pub ends-in-any-case : (p : Plan) (ks : List Completion) → setupAnswer p ≡ success → mostCount (p .attempts) ≤ fitting (setupOf p .state) ks
     → endedBy (stateOf p ks .phase) ≡ true
 ends-in-any-case p ks e l =
     let c = chunks-limited p ks e in
-    let m = mul-le-mul-left {m = mostChunks (setupOf p .state) ks + 1} {n = most4 + 1} (p .attempts) (omega arith) in
+    let m = mul-le-mul-left {m = chunksIn p ks + 1} {n = most4 + 1} (p .attempts) (omega arith) in
     let o = one-more p in
     ends p ks e (omega arith)

@@ -18,7 +18,7 @@ use Rattle.words.specs.declared.Words.{Words}
 use Rattle.words.specs.Words.{readOf}
 use Rattle.plans.specs.declared.Plan.{Plan}
 use Rattle.plans.specs.declared.Phase.{Phase}
-use Rattle.plans.specs.declared.Phase.the-variants.{First, Chunk, Close, Ack, Ended}
+use Rattle.plans.specs.declared.Phase.the-variants.{First}
 use Rattle.completions.specs.declared.Seen.{Seen}
 use Rattle.judgement.specs.declared.Move.{Move}
 use Rattle.plans.specs.Awaited.{commandBy, asks-rae, asks-create}

@@ -2,15 +2,18 @@
 -- Assumes nothing.
 use Prim.Native.Nat.{ℕ, _+_, _-_, _/_}
 use mathlib.Core.List.{List, [], _∷_, _++_}
-use mathlib.Core.Bool.{Bool}
+use mathlib.Core.Bool.{Bool, _&&_}
+use lib.ListN.{length}
 use lib.Dec.{eqb}
 use Rattle.choices.specs.Choice.{pick, larger}
-use Rattle.answers.specs.Answers.{doesNotFit}
+use Rattle.answers.specs.Answers.{success, doesNotFit}
 use Rattle.pages.specs.Pages.{controllerPage}
 use Rattle.words.specs.declared.Words.{Words}
 use Rattle.plans.specs.declared.Plan.{Plan}
+use Rattle.plans.specs.Phases.{judgedBy}
 use Rattle.plans.specs.Plans.{areaLast}
-use Rattle.collection.specs.Collection.{setupOf, stepOf, answerOf}
+use Rattle.completions.specs.Completions.{seenOf}
+use Rattle.collection.specs.Collection.{setupOf, stepOf, refusalOf, answerOf}
 use Rattle.collection.specs.declared.Collection.{Collection}
 use Rattle.collection.specs.declared.Next.{Next}
 use Rattle.collection.specs.declared.Next.the-variants.{Send, End as Ends, Refuse}
@@ -56,10 +59,19 @@ chunksFrom c at b = (b + c - at) / c
 abbrev pub chunksOf : Plan → List ℕ → ℕ
 chunksOf p last = chunksFrom (p .chunk) 1 (areaLast p last)
 
--- the most chunks that any header of the run calls for; a state keeps the last blocks of its attempt's header
-unfoldable pub mostChunks : Collection → List Completion → ℕ
-mostChunks s [] = chunksOf (s .plan) (s .attempt .last)
-mostChunks s (k ∷ ks) = larger (chunksOf (s .plan) (s .attempt .last)) (mostChunks (stepBy s k .state) ks)
+-- the chunks that a header's data calls for, by the wanted area's last block in it; none where the header is bad
+abbrev pub calledFor : Plan → List ℕ → ℕ
+calledFor p d = chunksOf p (seenOf p d .last)
+
+-- the most that any of these headers calls for
+unfoldable pub mostChunks : Plan → List (List ℕ) → ℕ
+mostChunks p [] = 0
+mostChunks p (d ∷ ds) = larger (calledFor p d) (mostChunks p ds)
+
+-- the data of the headers that a run judges, in order
+unfoldable pub headersOf : Collection → List Completion → List (List ℕ)
+headersOf s [] = []
+headersOf s (k ∷ ks) = pick (judgedBy (s .phase) && eqb (refusalOf s (k .ok) (length (k .bytes)) (k .copy)) success) (k .bytes ∷ []) [] ++ headersOf (stepBy s k .state) ks
 
 -- the acknowledgement: one command more on 08h
 abbrev pub acknowledging : Plan → ℕ

@@ -2,4 +2,4 @@
 // record (specs/Counted.antt), its states never get 13 and it ends (specs/Bound.antt), and which commands carry RAE and create
 // (specs/Retained.antt). The paper's listing from the definitions is specs/Listing.antt.
 //
-// It rests on choices, answers, pages, words, plans, completions, judgement, turns and collection, and has no code of its own.
+// It rests on choices, answers, pages, words, header, plans, completions, judgement, turns and collection, and has no code of its own.

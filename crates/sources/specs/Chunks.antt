@@ -31,7 +31,7 @@ use Rattle.collection.specs.declared.Next.the-variants.{Send}
 use Rattle.collection.specs.declared.Stepped.{Stepped}
 use Rattle.collection.specs.Copied.{chunk-copy, ending-copy, sending-copy}
 use Rattle.runs.specs.Run.{given}
-use Rattle.sources.specs.Source.{Source, Done, Stand, fine, dataOf, stepped, hears}
+use Rattle.sources.specs.Source.{Source, ours, Done, Stand, fine, dataOf, stepped, hears}
 use Rattle.sources.specs.Keeps.{Keeps, Header}
 use Rattle.sources.specs.Promise.{succeeded}
 use Rattle.sources.specs.Inv.{Common, Opened, Mid, Had, Inv}
@@ -83,9 +83,9 @@ module _ (D : Source) (p : Plan) (K : Keeps D p) (s : Stand D) (o : Done (D .Sta
       copy = y;
       source = s .source;
       sent = stepped D s o x y .sent;
+      headers = s .headers;
       checked = s .checked;
       counts = record { since = s .counts .since; captures = s .counts .captures; lentRefusals = stepped D s o x y .counts .lentRefusals };
-      most = stepped D s o x y .most;
     }
 
     plain-is : (x : Stepped) (y : List ℕ) → plain x y ≡ stepped D s o x y
@@ -116,7 +116,7 @@ module _ (D : Source) (p : Plan) (K : Keeps D p) (s : Stand D) (o : Done (D .Sta
 
     served : o .answer ≡ success → length (o .bytes) ≡ block * n
         → (K .shows (s .source) .last ≡ state .attempt .last → o .bytes ≡ take (block * n) (drop (block * (at - 1)) (K .area (s .source))))
-        → Inv D p K (hears D s o)
+        → Inv D p K (hears ours D s o)
     unfolding awaitedOf
     served a l right =
         let z : fine o ≡ true = eq-eqb (o .answer) success a in
@@ -149,7 +149,7 @@ module _ (D : Source) (p : Plan) (K : Keeps D p) (s : Stand D) (o : Done (D .Sta
         (subst (λ (v : Stand D). Mid D p K v (at - 1 + n) true) (plain-is x y) mid))
 
     -- refused, and then the page is no longer the one that the attempt's header showed
-    refused : (o .answer ≡ success → ⊥) → (K .shows (s .source) .last ≡ state .attempt .last → o .answer ≡ success) → Inv D p K (hears D s o)
+    refused : (o .answer ≡ success → ⊥) → (K .shows (s .source) .last ≡ state .attempt .last → o .answer ≡ success) → Inv D p K (hears ours D s o)
     unfolding awaitedOf
     refused a right =
         let z : fine o ≡ false = ne-eqb (o .answer) success a in
@@ -167,7 +167,7 @@ module _ (D : Source) (p : Plan) (K : Keeps D p) (s : Stand D) (o : Done (D .Sta
 
     pub chunk-inv : (o .answer ≡ success → length (o .bytes) ≡ block * n)
         → (K .shows (s .source) .last ≡ state .attempt .last → (o .answer ≡ success) × (o .bytes ≡ take (block * n) (drop (block * (at - 1)) (K .area (s .source)))))
-        → Inv D p K (hears D s o)
+        → Inv D p K (hears ours D s o)
     chunk-inv long right =
         same-or-not (o .answer) success
         (λ a. served a (long a) (λ e. right e .1))
@@ -175,7 +175,7 @@ module _ (D : Source) (p : Plan) (K : Keeps D p) (s : Stand D) (o : Done (D .Sta
 
   -- ---- the acknowledgement
 
-  pub ack-inv : state .phase ≡ Ack → Had D p K s → Header p o (K .shows (s .source)) → s .counts .since ≤ 255 → Inv D p K (hears D s o)
+  pub ack-inv : state .phase ≡ Ack → Had D p K s → Header p o (K .shows (s .source)) → s .counts .since ≤ 255 → Inv D p K (hears ours D s o)
   unfolding lookOf lookBy expectedOf
   ack-inv f h hdr few =
       let op = h .opened in

@@ -21,9 +21,9 @@ use Rattle.collection.specs.declared.Finish.{Finish}
 use Rattle.collection.specs.declared.Next.{Next}
 use Rattle.collection.specs.declared.Next.the-variants.{Send, End as Ends, Refuse}
 use Rattle.collection.specs.declared.Stepped.{Stepped}
-use Rattle.runs.specs.Run.{given, acknowledging}
+use Rattle.runs.specs.Run.{given, acknowledging, mostChunks}
 use Rattle.runs.specs.Bound.{Reached, reached-count, begins}
-use Rattle.sources.specs.Source.{Source, Turn, Stand, forLent, happen, hears, turnBy, run, begun, collected}
+use Rattle.sources.specs.Source.{Source, ours, Turn, Stand, forLent, happen, hears, turnBy, run, begun, collected}
 use Rattle.sources.specs.Keeps.{Keeps}
 use Rattle.sources.specs.Promise.{Told, mostCommands, Promise, Finished}
 use Rattle.sources.specs.Inv.{Common, Over, Inv}
@@ -33,8 +33,8 @@ use Rattle.sources.specs.Turns.{run-grows, no-lent-refusal, hears-counts
 module _ (D : Source) (p : Plan) (K : Keeps D p) where
   -- ---- the first command
 
-  begun-common : (copy : List ℕ) (d : D .State) → setupAnswer p ≡ success → length copy ≡ p .room → Common D p K (begun D p copy d)
-  unfolding begun
+  begun-common : (copy : List ℕ) (d : D .State) → setupAnswer p ≡ success → length copy ≡ p .room → Common D p K (begun ours D p copy d)
+  unfolding begun mostChunks
   begun-common copy d e l = record {
     plan = rw (setup-taken p e);
     size = l;
@@ -47,12 +47,12 @@ module _ (D : Source) (p : Plan) (K : Keeps D p) where
   -- the run after its first command
   opened : (copy : List ℕ) (d : D .State) (first : D .Lent) → setupAnswer p ≡ success → length copy ≡ p .room → K .Good d
       → forLent (D .command first (awaitedOf (beginning p First 1)) d .answer) ≡ false
-      → Inv D p K (hears D (begun D p copy d) (D .command first (awaitedOf (beginning p First 1)) d))
+      → Inv D p K (hears ours D (begun ours D p copy d) (D .command first (awaitedOf (beginning p First 1)) d))
   unfolding begun awaitedOf
   opened copy d first e l g fair =
       let r = K .first first (beginning p First 1 .attempt .last) d g fair in
       let ph : setupOf p .state .phase ≡ First = rw (setup-taken p e) in
-      first-inv D p K (begun D p copy d) (D .command first (awaitedOf (beginning p First 1)) d) (begun-common copy d e l) (rw ph) (r .0) (r .1) ph
+      first-inv D p K (begun ours D p copy d) (D .command first (awaitedOf (beginning p First 1)) d) (begun-common copy d e l) (rw ph) (r .0) (r .1) ph
       (rw (setup-taken p e)) (rw (setup-taken p e))
 
   -- ---- what the invariant says
@@ -77,7 +77,7 @@ module _ (D : Source) (p : Plan) (K : Keeps D p) where
       let c = i .common in
       record {
         counted = c .counted;
-        bounded = bound k (s .most) s c (c .reached) h;
+        bounded = bound k (mostChunks p (s .headers)) s c (c .reached) h;
         limited = bound k most4 s c (c .house) h;
         never = λ n e. let o = at-end s i (Refuse n) e refl in let z : _≡_ {A = ℕ} 0 1 = differ (sym e ∙ o .said) in absurd (omega arith);
         told = λ e q. let o = at-end s i (Ends e) q refl in subst (λ (x : Finish). Told D p K x s) (same-ending (sym (o .said) ∙ q)) (o .told);
@@ -91,30 +91,30 @@ module _ (D : Source) (p : Plan) (K : Keeps D p) where
 
   module _ (copy : List ℕ) (d : D .State) (first : D .Lent) (ts : List (Turn D)) where
     abbrev final : Stand D
-    final = collected D p copy d first ts
+    final = collected ours D p copy d first ts
 
     abbrev start : Stand D
-    start = hears D (begun D p copy d) (D .command first (awaitedOf (beginning p First 1)) d)
+    start = hears ours D (begun ours D p copy d) (D .command first (awaitedOf (beginning p First 1)) d)
 
-    final-is : setupAnswer p ≡ success → final ≡ run D ts start
+    final-is : setupAnswer p ≡ success → final ≡ run ours D ts start
     unfolding collected happen begun
-    final-is e = ap (λ (n : Next). run D ts (turnBy D n (record { events = []; lent = first }) (begun D p copy d))) (ap (λ (x : Stepped). x .next) (setup-taken p e))
+    final-is e = ap (λ (n : Next). run ours D ts (turnBy ours D n (record { events = []; lent = first }) (begun ours D p copy d))) (ap (λ (x : Stepped). x .next) (setup-taken p e))
 
     -- the first command, too, was refused for no lent data
     pub first-fair : setupAnswer p ≡ success → final .counts .lentRefusals ≡ 0 → forLent (D .command first (wordsBy First p (zeros 4)) d .answer) ≡ false
     unfolding begun awaitedOf
     first-fair e none =
         let grown = run-grows D p K ts start in
-        let none′ : run D ts start .counts .lentRefusals ≡ 0 = subst (λ (s : Stand D). s .counts .lentRefusals ≡ 0) (final-is e) none in
-        no-lent-refusal D p K (begun D p copy d) (D .command first (awaitedOf (beginning p First 1)) d) (omega (arith, grown .1, none′))
+        let none′ : run ours D ts start .counts .lentRefusals ≡ 0 = subst (λ (s : Stand D). s .counts .lentRefusals ≡ 0) (final-is e) none in
+        no-lent-refusal D p K (begun ours D p copy d) (D .command first (awaitedOf (beginning p First 1)) d) (omega (arith, grown .1, none′))
 
     -- as many completions as the count can be end it
-    ends : setupAnswer p ≡ success → (k b : ℕ) → Promise D p K k (run D ts start) → run D ts start .collection .count ≤ b → b ≤ 1 + length ts
-        → (n : Next) → run D ts start .said ≡ n → Finished D (run D ts start)
+    ends : setupAnswer p ≡ success → (k b : ℕ) → Promise D p K k (run ours D ts start) → run ours D ts start .collection .count ≤ b → b ≤ 1 + length ts
+        → (n : Next) → run ours D ts start .said ≡ n → Finished D (run ours D ts start)
     unfolding begun
     ends e k b r few long (Send w) q =
         let g = going-counts D p K ts start (ap (λ (n : Next). length (given n)) q) in
-        let c = hears-counts D p K (begun D p copy d) (D .command first (awaitedOf (beginning p First 1)) d) in
+        let c = hears-counts D p K (begun ours D p copy d) (D .command first (awaitedOf (beginning p First 1)) d) in
         let one : setupOf p .state .count ≡ 1 = rw (setup-taken p e) in
         absurd (omega (arith, g .0, g .1, c, one))
     ends e k b r few long (Ends x) q = record { ending = x; said = q }
@@ -127,9 +127,9 @@ module _ (D : Source) (p : Plan) (K : Keeps D p) where
     unfolding awaitedOf
     demand e l g k few more h none =
         let q = final-is e in
-        let h′ : run D ts start .counts .captures ≤ k = subst (λ (s : Stand D). s .counts .captures ≤ k) q h in
-        let none′ : run D ts start .counts .lentRefusals ≡ 0 = subst (λ (s : Stand D). s .counts .lentRefusals ≡ 0) q none in
+        let h′ : run ours D ts start .counts .captures ≤ k = subst (λ (s : Stand D). s .counts .captures ≤ k) q h in
+        let none′ : run ours D ts start .counts .lentRefusals ≡ 0 = subst (λ (s : Stand D). s .counts .lentRefusals ≡ 0) q none in
         let fair = first-fair e none in
-        let i : Inv D p K (run D ts start) = run-inv D p K k few more ts start (opened copy d first e l g fair) h′ none′ in
+        let i : Inv D p K (run ours D ts start) = run-inv D p K k few more ts start (opened copy d first e l g fair) h′ none′ in
         subst (λ (s : Stand D). Promise D p K k s × ((b : ℕ) → s .collection .count ≤ b → b ≤ 1 + length ts → Finished D s)) (sym q)
-        (promises k (run D ts start) i h′, λ b few long. ends e k b (promises k (run D ts start) i h′) few long (run D ts start .said) refl)
+        (promises k (run ours D ts start) i h′, λ b few long. ends e k b (promises k (run ours D ts start) i h′) few long (run ours D ts start .said) refl)

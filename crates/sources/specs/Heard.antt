@@ -2,13 +2,13 @@
 -- Assumes nothing.
 use Prim.Native.Nat.{ℕ, _+_, _-_, _≤_, _<_}
 use mathlib.Core.Path.{_≡_, refl, sym, ap, subst, _∙_}
-use mathlib.Core.List.{List, []}
+use mathlib.Core.List.{List, [], _∷_}
 use mathlib.Core.Bool.{Bool, true, false}
 use native.Mathlib.Omega.{arith}
 use lib.ListN.{length, length-append}
 use lib.Dec.{leb}
 use borrow.Author.Tests.{leb-true, leb-false, eq-eqb}
-use Rattle.choices.specs.Choice.{pick, pick-cases, larger, larger-left, larger-right}
+use Rattle.choices.specs.Choice.{pick, pick-cases, larger-left, larger-right}
 use Rattle.choices.specs.Tests.{clash}
 use Rattle.copies.specs.Parts.{zeros}
 use Rattle.answers.specs.Answers.{success}
@@ -18,7 +18,6 @@ use Rattle.plans.specs.declared.Phase.{Phase}
 use Rattle.plans.specs.declared.Phase.the-variants.{First, Chunk, Close, Ack, Ended}
 use Rattle.plans.specs.Phases.{judgedBy, endedBy}
 use Rattle.plans.specs.Plans.{areaLast, expectedBy, phaseAt}
-use Rattle.completions.specs.Completions.{lookBy, seenOf}
 use Rattle.collection.specs.Collection.{expectedOf, completionFits, refusalOf, numberIn, ends, stepOf, copyAfter}
 use Rattle.collection.specs.Steps.{endedIn}
 use Rattle.judgement.specs.declared.Ending.{Ending}
@@ -26,10 +25,10 @@ use Rattle.turns.specs.Turns.{good}
 use Rattle.collection.specs.declared.Collection.{Collection}
 use Rattle.collection.specs.declared.Stepped.{Stepped}
 use Rattle.collection.specs.Copied.{copy-length, ending-copy}
-use Rattle.runs.specs.Run.{Completion, given, chunksOf}
+use Rattle.runs.specs.Run.{Completion, given, calledFor, mostChunks}
 use Rattle.runs.specs.Counted.{step-counts}
 use Rattle.runs.specs.Bound.{Reached, reached-ok, reached-more, step-reached, step-house}
-use Rattle.sources.specs.Source.{Source, Done, Stand, fine, dataOf, stepped, hears}
+use Rattle.sources.specs.Source.{Source, ours, Done, Stand, fine, dataOf, stepped, hears}
 use Rattle.sources.specs.Keeps.{Keeps}
 use Rattle.sources.specs.Promise.{Told}
 use Rattle.sources.specs.Inv.{Common, Mid, At, Inv}
@@ -40,16 +39,7 @@ pub takes : (c : Collection) (ok : Bool) (d : List ℕ) (n : ℕ) → Reached mo
 unfolding refusalOf completionFits
 takes c ok d n r g l e = rw (g, reached-ok c r, eq-eqb n (c .plan .room) l, eq-eqb (length d) (pick ok (expectedOf c) 0) e)
 
--- where a header is awaited, the data is looked at as one
-pub look-header : (f : Phase) (p : Plan) (d : List ℕ) → judgedBy f ≡ true → lookBy f p d ≡ seenOf p d
-unfolding lookBy
-look-header First p d e = refl
-look-header (Chunk at) p d e = clash {t = true} refl (sym e)
-look-header (Close after) p d e = refl
-look-header Ack p d e = clash {t = true} refl (sym e)
-look-header Ended p d e = clash {t = true} refl (sym e)
-
--- and has a block
+-- a header has a block
 pub header-block : (f : Phase) (p : Plan) (last : List ℕ) → judgedBy f ≡ true → expectedBy f p last ≡ block
 header-block First p last e = refl
 header-block (Chunk at) p last e = clash {t = true} refl (sym e)
@@ -81,20 +71,25 @@ module _ (D : Source) (p : Plan) (K : Keeps D p) (s : Stand D) (o : Done (D .Sta
   abbrev pub copied : List ℕ
   copied = copyAfter (s .collection) (fine o) (dataOf o) (s .copy)
 
-  common : Common D p K s → step .state .attempt .number + pick (judgedBy (s .collection .phase)) 0 (s .counts .since) ≤ s .counts .captures + 1 → Common D p K (hears D s o)
-  unfolding hears
+  most-grows : (t : Bool) → mostChunks p (s .headers) ≤ mostChunks p (pick t (dataOf o ∷ s .headers) (s .headers))
+  unfolding mostChunks
+  most-grows true = larger-right (calledFor p (dataOf o)) (mostChunks p (s .headers))
+  most-grows false = omega arith
+
+  common : Common D p K s → step .state .attempt .number + pick (judgedBy (s .collection .phase)) 0 (s .counts .since) ≤ s .counts .captures + 1 → Common D p K (hears ours D s o)
+  unfolding hears mostChunks
   common c t =
       let k : Completion = record { ok = fine o; bytes = dataOf o; copy = length (s .copy) } in
       let n = step-counts (s .collection) (fine o) (dataOf o) (length (s .copy)) in
       let l = length-append (s .sent) (given (step .next)) in
-      let more : ℕ = larger (s .most) (chunksOf (s .collection .plan) (step .state .attempt .last)) in
+      let more : ℕ = mostChunks p (pick (judgedBy (s .collection .phase)) (dataOf o ∷ s .headers) (s .headers)) in
       record {
         plan = n .plan ∙ c .plan;
         size = copy-length (s .collection) (fine o) (dataOf o) (s .copy) ∙ c .size;
         house = step-house (s .collection) k (c .house);
         reached =
-            step-reached more (s .collection) k (reached-more (s .most) more (s .collection) (larger-left (s .most) _) (c .reached))
-            (λ w. larger-right (s .most) _);
+            step-reached more (s .collection) k (reached-more (mostChunks p (s .headers)) more (s .collection) (most-grows (judgedBy (s .collection .phase))) (c .reached))
+            (λ e j w. rw (c .plan, j) (larger-left (calledFor p (dataOf o)) (mostChunks p (s .headers))));
         counted = omega (arith, n .count, c .counted);
         tries = t;
       }
@@ -103,7 +98,7 @@ module _ (D : Source) (p : Plan) (K : Keeps D p) (s : Stand D) (o : Done (D .Sta
   pub finish : (x : Stepped) (y : List ℕ) → step ≡ x → copied ≡ y → Common D p K s
       → x .state .attempt .number + pick (judgedBy (s .collection .phase)) 0 (s .counts .since) ≤ s .counts .captures + 1
       → At D p K (x .state .phase) (stepped D s o x y)
-      → Inv D p K (hears D s o)
+      → Inv D p K (hears ours D s o)
   unfolding hears
   finish x y ex ey c t a = record { common = common c (rw ex t); now = rw (ex, ey) a }
 
@@ -118,7 +113,7 @@ module _ (D : Source) (p : Plan) (K : Keeps D p) (s : Stand D) (o : Done (D .Sta
   pub ended : Common D p K s → (next : Bool) (e : Ending) (y : List ℕ) → step ≡ ends (endedIn (s .collection) next) e → copied ≡ y
       → numberIn (s .collection) next + pick (judgedBy (s .collection .phase)) 0 (s .counts .since) ≤ s .counts .captures + 1
       → Told D p K (record { ending = e; count = s .collection .count }) (stepped D s o (ends (endedIn (s .collection) next) e) y)
-      → Inv D p K (hears D s o)
+      → Inv D p K (hears ours D s o)
   ended c next e y ex ey t told =
       finish (ends (endedIn (s .collection) next) e) y ex ey c t
       (record { ending = record { ending = e; count = s .collection .count }; said = refl; told = told; count = omega (arith, c .counted, length-append (s .sent) []) })

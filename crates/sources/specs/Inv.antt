@@ -14,6 +14,7 @@ use Rattle.completions.specs.Completions.{showsNone}
 use Rattle.collection.specs.Collection.{awaitedOf}
 use Rattle.collection.specs.declared.Finish.{Finish}
 use Rattle.collection.specs.declared.Next.the-variants.{Send, End as Ends}
+use Rattle.runs.specs.Run.{mostChunks}
 use Rattle.runs.specs.Bound.{Reached}
 use Rattle.sources.specs.Source.{Source, Stand}
 use Rattle.sources.specs.Keeps.{Keeps}
@@ -26,7 +27,7 @@ module _ (D : Source) (p : Plan) (K : Keeps D p) where
     pub plan : s .collection .plan ≡ p
     pub size : length (s .copy) ≡ p .room
     pub house : Reached most4 (s .collection)
-    pub reached : Reached (s .most) (s .collection)
+    pub reached : Reached (mostChunks p (s .headers)) (s .collection)
     pub counted : s .collection .count ≡ length (s .sent)
     -- a failed attempt saw a capture
     pub tries : s .collection .attempt .number + s .counts .since ≤ s .counts .captures + 1

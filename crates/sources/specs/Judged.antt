@@ -30,11 +30,12 @@ use Rattle.collection.specs.declared.Collection.{Collection}
 use Rattle.collection.specs.declared.Next.the-variants.{Send}
 use Rattle.collection.specs.declared.Stepped.{Stepped}
 use Rattle.collection.specs.Copied.{ending-copy, sending-copy}
-use Rattle.sources.specs.Source.{Source, Done, Stand, fine, dataOf, stepped, hears}
+use Rattle.runs.specs.Bound.{look-header}
+use Rattle.sources.specs.Source.{Source, ours, Done, Stand, fine, dataOf, stepped, hears}
 use Rattle.sources.specs.Keeps.{Keeps, Header}
 use Rattle.sources.specs.Promise.{Told, succeeded, lacked, withdrew, empty}
 use Rattle.sources.specs.Inv.{Common, Still, Opened, Mid, Had, Inv}
-use Rattle.sources.specs.Heard.{takes, look-header, header-block, header-going, at-phase, step, copied, finish, zeroed, ended}
+use Rattle.sources.specs.Heard.{takes, header-block, header-going, at-phase, step, copied, finish, zeroed, ended}
 
 header-no-chunk : (f : Phase) (at : ℕ) → judgedBy f ≡ true → f ≡ Chunk at → ⊥
 header-no-chunk f at e q = clash {t = true} refl (sym (rw q at e))
@@ -80,9 +81,9 @@ module _ (D : Source) (p : Plan) (K : Keeps D p) (s : Stand D) (o : Done (D .Sta
     copy = y;
     source = o .source;
     sent = stepped D s o x y .sent;
+    headers = dataOf o ∷ s .headers;
     checked = o .source;
     counts = record { since = 0; captures = s .counts .captures; lentRefusals = stepped D s o x y .counts .lentRefusals };
-    most = stepped D s o x y .most;
   }
 
   judged-is : (x : Stepped) (y : List ℕ) → judged x y ≡ stepped D s o x y
@@ -92,7 +93,7 @@ module _ (D : Source) (p : Plan) (K : Keeps D p) (s : Stand D) (o : Done (D .Sta
 
   -- the area is larger than the copy
   large : (next : Bool) → fitsRoom p (h .last) ≡ false → numberIn state next ≤ s .counts .captures + 1 → step D p K s o ≡ ends (endedIn state next) NoRoom
-      → Inv D p K (hears D s o)
+      → Inv D p K (hears ours D s o)
   unfolding fitsRoom
   large next r t ex =
       ended D p K s o c next NoRoom (zeros (p .room)) ex (zeroed D p K s o c next NoRoom refl ex) (rw f (omega arith))
@@ -105,7 +106,7 @@ module _ (D : Source) (p : Plan) (K : Keeps D p) (s : Stand D) (o : Done (D .Sta
   one-more x w e l = rw e (omega (arith, length-append (s .sent) (w ∷ [])))
 
   opens : (next : Bool) → showsNone p h ≡ false → 1 ≤ length (s .sent) → numberIn state next ≤ s .counts .captures + 1
-      → step D p K s o ≡ sends (openedBy state next h) → Inv D p K (hears D s o)
+      → step D p K s o ≡ sends (openedBy state next h) → Inv D p K (hears ours D s o)
   unfolding awaitedOf
   opens next live some t ex =
       let x : Stepped = sends (openedBy state next h) in
@@ -132,7 +133,7 @@ module _ (D : Source) (p : Plan) (K : Keeps D p) (s : Stand D) (o : Done (D .Sta
 
   -- ---- the first header
 
-  pub first-inv : state .phase ≡ First → length (s .sent) ≡ 1 → state .attempt .number ≡ 1 → Inv D p K (hears D s o)
+  pub first-inv : state .phase ≡ First → length (s .sent) ≡ 1 → state .attempt .number ≡ 1 → Inv D p K (hears ours D s o)
   first-inv e one a =
       by-test (showsNone p h)
       (λ n.
@@ -159,7 +160,7 @@ module _ (D : Source) (p : Plan) (K : Keeps D p) (s : Stand D) (o : Done (D .Sta
     moved : h .generation ≡ (state .attempt .generation + s .counts .since) % 256
     moved = rw same (op .gens)
 
-    gone : showsNone p h ≡ true → Inv D p K (hears D s o)
+    gone : showsNone p h ≡ true → Inv D p K (hears ours D s o)
     gone n =
         let ex = later-none state (fine o) (dataOf o) (length (s .copy)) taken cl is-fine sound (none-is true n) in
         ended D p K s o c false Withdrawn (zeros (p .room)) ex (zeroed D p K s o c false Withdrawn refl ex) (rw f (omega (arith, c .tries)))
@@ -171,7 +172,7 @@ module _ (D : Source) (p : Plan) (K : Keeps D p) (s : Stand D) (o : Done (D .Sta
       match-is t e = rw look e
 
       -- the generation is another one
-      mismatch : s .counts .captures < p .attempts → eqb (h .generation) (state .attempt .generation) ≡ false → Inv D p K (hears D s o)
+      mismatch : s .counts .captures < p .attempts → eqb (h .generation) (state .attempt .generation) ≡ false → Inv D p K (hears ours D s o)
       mismatch more e =
           let hit : 1 ≤ s .counts .since = omega (arith, eqb-false (h .generation) (state .attempt .generation) e, moved, low) in
           let t : state .attempt .number + 1 ≤ s .counts .captures + 1 = omega (arith, c .tries) in
@@ -196,7 +197,7 @@ module _ (D : Source) (p : Plan) (K : Keeps D p) (s : Stand D) (o : Done (D .Sta
             ∙ take-all (areaBytes p (state .attempt .last)) (K .area (o .source)) (omega (arith, l))
 
         -- 08h is to be acknowledged
-        acknowledges : eqb (p .page) controllerPage ≡ true → Inv D p K (hears D s o)
+        acknowledges : eqb (p .page) controllerPage ≡ true → Inv D p K (hears ours D s o)
         unfolding awaitedOf
         acknowledges page =
             let x : Stepped = sends (inPhase state Ack) in
@@ -223,7 +224,7 @@ module _ (D : Source) (p : Plan) (K : Keeps D p) (s : Stand D) (o : Done (D .Sta
             }))
 
         -- 07h is done
-        done : eqb (p .page) controllerPage ≡ false → Inv D p K (hears D s o)
+        done : eqb (p .page) controllerPage ≡ false → Inv D p K (hears ours D s o)
         done page =
             let ex = later-done state (fine o) (dataOf o) (length (s .copy)) taken cl is-fine sound (none-is false n) (match-is true e) refused (rw (c .plan) page) in
             let left = ending-copy state (fine o) (dataOf o) (s .copy) (record { ending = Success false; count = state .count }) (ap (λ (y : Stepped). y .next) ex) in
@@ -235,10 +236,10 @@ module _ (D : Source) (p : Plan) (K : Keeps D p) (s : Stand D) (o : Done (D .Sta
             (judged-is (ends (endedIn state false) (Success false)) (K .area (o .source) ++ zeros (p .room - length (K .area (o .source)))))
             (succeeded refl refl n))
 
-        stands : Inv D p K (hears D s o)
+        stands : Inv D p K (hears ours D s o)
         stands = by-test (eqb (p .page) controllerPage) (λ t. acknowledges t) (λ t. done t)
 
-    pub closing-inv : s .counts .since ≤ 255 → s .counts .captures < p .attempts → Inv D p K (hears D s o)
+    pub closing-inv : s .counts .since ≤ 255 → s .counts .captures < p .attempts → Inv D p K (hears ours D s o)
     closing-inv few more =
         by-test (showsNone p h)
         (λ n. gone n)

@@ -8,3 +8,4 @@ pub mod Judged
 pub mod Chunks
 pub mod Turns
 pub mod Demand
+pub mod Lazy

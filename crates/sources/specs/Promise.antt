@@ -14,7 +14,7 @@ use Rattle.completions.specs.Completions.{showsNone}
 use Rattle.judgement.specs.declared.Ending.the-variants.{Success, NoRoom, Withdrawn, Nothing}
 use Rattle.collection.specs.declared.Finish.{Finish}
 use Rattle.collection.specs.declared.Next.the-variants.{End as Ends, Refuse}
-use Rattle.runs.specs.Run.{acknowledging}
+use Rattle.runs.specs.Run.{acknowledging, mostChunks}
 use Rattle.sources.specs.Source.{Source, Stand}
 use Rattle.sources.specs.Keeps.{Keeps}
 
@@ -43,9 +43,10 @@ module _ (D : Source) (p : Plan) (K : Keeps D p) where
 
   -- of a run with k captures at most
   pub record Promise (k : ℕ) (s : Stand D) : Type 0 where
-    -- the count is the length of the record, and within that number, also with C at the house limit
+    -- the count is the length of the record, and within that number, C being the most chunks that a header of the run calls for, and also with C at
+    -- the house limit
     pub counted : s .collection .count ≡ length (s .sent)
-    pub bounded : s .collection .count ≤ mostCommands p k (s .most)
+    pub bounded : s .collection .count ≤ mostCommands p k (mostChunks p (s .headers))
     pub limited : s .collection .count ≤ mostCommands p k most4
     -- never 13, 14 or 15
     pub never : (n : ℕ) → s .said ≡ Refuse n → ⊥

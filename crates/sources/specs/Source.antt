@@ -1,12 +1,12 @@
--- A run of a collection from a source: the collection's commands are answered by the source, and before each of them but the first anything may
+-- A run of a collector from a source: the collector's commands are answered by the source, and before each of them but the first anything may
 -- happen to it.
 -- Assumes nothing.
 use Prim.Native.Nat.{ℕ, _+_}
 use mathlib.Core.List.{List, [], _∷_, _++_}
-use mathlib.Core.Bool.{Bool, true, false, _&&_}
+use mathlib.Core.Bool.{Bool, _&&_}
 use lib.ListN.{length}
 use lib.Dec.{leb, eqb}
-use Rattle.choices.specs.Choice.{pick, larger}
+use Rattle.choices.specs.Choice.{pick}
 use Rattle.answers.specs.Answers.{success, shortBuffer, brokenCandidate}
 use Rattle.words.specs.declared.Words.{Words}
 use Rattle.plans.specs.declared.Plan.{Plan}
@@ -16,7 +16,7 @@ use Rattle.collection.specs.declared.Next.{Next}
 use Rattle.collection.specs.declared.Next.the-variants.{Send, End as Ends, Refuse}
 use Rattle.collection.specs.declared.Stepped.{Stepped}
 use Rattle.collection.specs.Collection.{setupOf, stepOf, copyAfter}
-use Rattle.runs.specs.Run.{given, chunksOf}
+use Rattle.runs.specs.Run.{given}
 
 -- ---- a source
 
@@ -34,6 +34,18 @@ pub record Source : Type 1 where
   pub act : Event → State → State
   pub captures : Event → State → ℕ
   pub command : Lent → Words → State → Done State
+
+-- ---- a collector
+
+-- what setup says of a plan; and of a state, a completion (whether it is a success, and its data) and a copy: the step and what it leaves of the copy
+pub record Collector : Type 0 where
+  pub setup : Plan → Stepped
+  pub step : Collection → Bool → List ℕ → ℕ → Stepped
+  pub copied : Collection → Bool → List ℕ → List ℕ → List ℕ
+
+-- the one that is proved
+abbrev pub ours : Collector
+ours = record { setup = setupOf; step = stepOf; copied = copyAfter }
 
 -- ---- a run
 
@@ -58,17 +70,16 @@ abbrev pub heard : Bool → Bool → Counters → Counters
 heard judged lent c = record { since = pick judged 0 (c .since); captures = c .captures; lentRefusals = c .lentRefusals + pick lent 1 0 }
 
 -- where a run stands: the collection, what setup or the last step said, the copy and the source; and what the promise speaks of: the commands
--- given, in order, the source as it stood at the last header that was judged, what is counted, and the most chunks that an attempt's header called
--- for
+-- given, in order, the data of the headers that were judged, the last one first, the source as it stood at that one, and what is counted
 pub record Stand (D : Source) : Type 0 where
   pub collection : Collection
   pub said : Next
   pub copy : List ℕ
   pub source : D .State
   pub sent : List Words
+  pub headers : List (List ℕ)
   pub checked : D .State
   pub counts : Counters
-  pub most : ℕ
 
 -- the answers 3, 4 and 5
 abbrev pub forLent : ℕ → Bool
@@ -90,9 +101,9 @@ module _ (D : Source) where
     copy = s .copy;
     source = D .act e (s .source);
     sent = s .sent;
+    headers = s .headers;
     checked = s .checked;
     counts = captured (D .captures e (s .source)) (s .counts);
-    most = s .most;
   }
 
   -- and one thing after another
@@ -108,23 +119,23 @@ module _ (D : Source) where
     copy = copy;
     source = o .source;
     sent = s .sent ++ given (x .next);
+    headers = pick (judgedBy (s .collection .phase)) (dataOf o ∷ s .headers) (s .headers);
     checked = pick (judgedBy (s .collection .phase)) (o .source) (s .checked);
     counts = heard (judgedBy (s .collection .phase)) (forLent (o .answer)) (s .counts);
-    most = larger (s .most) (chunksOf (s .collection .plan) (x .state .attempt .last));
   }
 
-  -- the awaited command's completion is handed to the collection
+module _ (C : Collector) (D : Source) where
+  -- the awaited command's completion is handed to the collector
   unfoldable pub hears : Stand D → Done (D .State) → Stand D
-  hears s o =
-      stepped s o (stepOf (s .collection) (fine o) (dataOf o) (length (s .copy))) (copyAfter (s .collection) (fine o) (dataOf o) (s .copy))
+  hears s o = stepped D s o (C .step (s .collection) (fine o) (dataOf o) (length (s .copy))) (C .copied (s .collection) (fine o) (dataOf o) (s .copy))
 
   -- a command of the run
   abbrev pub sends : Words → D .Lent → Stand D → Stand D
   sends w l s = hears s (D .command l w (s .source))
 
-  -- things happen, then the next command is sent; once the collection says no command, the run stands still
+  -- things happen, then the next command is sent; once the collector says no command, the run stands still
   abbrev pub turnBy : Next → Turn D → Stand D → Stand D
-  turnBy (Send w) t s = sends w (t .lent) (happen (t .events) s)
+  turnBy (Send w) t s = sends w (t .lent) (happen D (t .events) s)
   turnBy (Ends e) t s = s
   turnBy (Refuse n) t s = s
 
@@ -136,16 +147,16 @@ module _ (D : Source) where
   -- setup, before the first command
   unfoldable pub begun : Plan → List ℕ → D .State → Stand D
   begun p copy d = record {
-    collection = setupOf p .state;
-    said = setupOf p .next;
+    collection = C .setup p .state;
+    said = C .setup p .next;
     copy = copy;
     source = d;
-    sent = given (setupOf p .next);
+    sent = given (C .setup p .next);
+    headers = [];
     checked = d;
     counts = record { since = 0; captures = 0; lentRefusals = 0 };
-    most = 0;
   }
 
   -- the whole run: the first command with what it is lent, and then the turns
   unfoldable pub collected : Plan → List ℕ → D .State → D .Lent → List (Turn D) → Stand D
-  collected p copy d first ts = run ts (turnBy (setupOf p .next) (record { events = []; lent = first }) (begun p copy d))
+  collected p copy d first ts = run ts (turnBy (C .setup p .next) (record { events = []; lent = first }) (begun p copy d))

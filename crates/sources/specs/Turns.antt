@@ -1,6 +1,6 @@
 -- The invariant holds all along a run, and while the run goes on each turn counts one command more.
 -- Assumes nothing.
-use Prim.Native.Nat.{ℕ, _+_, _-_, _≤_, _<_}
+use Prim.Native.Nat.{ℕ, _+_, _≤_, _<_}
 use mathlib.Core.Path.{_≡_, refl, sym, ap, subst, _∙_}
 use mathlib.Core.List.{List, [], _∷_}
 use mathlib.Core.Bool.{true, false}
@@ -21,7 +21,7 @@ use Rattle.collection.specs.declared.Next.{Next}
 use Rattle.collection.specs.declared.Next.the-variants.{Send, End as Ends, Refuse}
 use Rattle.runs.specs.Run.{given}
 use Rattle.runs.specs.Counted.{step-counts}
-use Rattle.sources.specs.Source.{Source, Done, Turn, Stand, forLent, fine, dataOf, happens, happen, hears, turnBy, run}
+use Rattle.sources.specs.Source.{Source, ours, Done, Turn, Stand, forLent, fine, dataOf, happens, happen, hears, turnBy, run}
 use Rattle.sources.specs.Keeps.{Keeps, Header}
 use Rattle.sources.specs.Inv.{Common, Still, Opened, Over, At, Inv}
 use Rattle.sources.specs.Happened.{happen-inv}
@@ -35,7 +35,7 @@ module _ (D : Source) (p : Plan) (K : Keeps D p) where
   closes : (f : Phase) → closingBy f ≡ true → judgedBy f ≡ true → (s : Stand D) (l : D .Lent) → Common D p K s → s .collection .phase ≡ f → Opened D p K s
       → (s .counts .since ≡ 0 → showsNone p (K .shows (s .source)) ≡ false → (refusedBy f ≡ false) × Still D p K s (areaLast p (s .collection .attempt .last)) true)
       → s .counts .since ≤ 255 → s .counts .captures < p .attempts → forLent (D .command l (wordsBy f p (s .collection .attempt .last)) (s .source) .answer) ≡ false
-      → Inv D p K (hears D s (D .command l (wordsBy f p (s .collection .attempt .last)) (s .source)))
+      → Inv D p K (hears ours D s (D .command l (wordsBy f p (s .collection .attempt .last)) (s .source)))
   closes f cl hd s l c e op stood few more fair =
       let o : Done (D .State) = D .command l (wordsBy f p (s .collection .attempt .last)) (s .source) in
       let r = K .closing f cl l (s .collection .attempt .last) (s .source) (op .here) fair in
@@ -45,7 +45,7 @@ module _ (D : Source) (p : Plan) (K : Keeps D p) where
 
   own-by : (f : Phase) (s : Stand D) (l : D .Lent) → Common D p K s → s .collection .phase ≡ f → At D p K f s → endedBy f ≡ false
       → s .counts .since ≤ 255 → s .counts .captures < p .attempts → forLent (D .command l (wordsBy f p (s .collection .attempt .last)) (s .source) .answer) ≡ false
-      → Inv D p K (hears D s (D .command l (wordsBy f p (s .collection .attempt .last)) (s .source)))
+      → Inv D p K (hears ours D s (D .command l (wordsBy f p (s .collection .attempt .last)) (s .source)))
   own-by First s l c e a g few more fair = absurd a
   own-by (Chunk at) s l c e a g few more fair =
       let r = K .chunk at l (s .collection .attempt .last) (s .source) (a .opened .here) (rw (c .plan) at (c .house .room)) (rw (c .plan, e) at (c .house .inside)) fair in
@@ -59,11 +59,11 @@ module _ (D : Source) (p : Plan) (K : Keeps D p) where
 
   own-inv : (s : Stand D) (l : D .Lent) → Inv D p K s → endedBy (s .collection .phase) ≡ false → s .counts .since ≤ 255 → s .counts .captures < p .attempts
       → forLent (D .command l (awaitedOf (s .collection)) (s .source) .answer) ≡ false
-      → Inv D p K (hears D s (D .command l (awaitedOf (s .collection)) (s .source)))
+      → Inv D p K (hears ours D s (D .command l (awaitedOf (s .collection)) (s .source)))
   unfolding awaitedOf
   own-inv s l i g few more =
       let q : wordsBy (s .collection .phase) p (s .collection .attempt .last) ≡ wordsBy (s .collection .phase) (s .collection .plan) (s .collection .attempt .last) = rw (i .common .plan) in
-      subst (λ (w : Words). forLent (D .command l w (s .source) .answer) ≡ false → Inv D p K (hears D s (D .command l w (s .source)))) q
+      subst (λ (w : Words). forLent (D .command l w (s .source) .answer) ≡ false → Inv D p K (hears ours D s (D .command l w (s .source)))) q
       (own-by (s .collection .phase) s l (i .common) refl (i .now) g few more)
 
   -- ---- a turn
@@ -80,16 +80,16 @@ module _ (D : Source) (p : Plan) (K : Keeps D p) where
   happen-grows [] s = (omega arith, omega arith)
   happen-grows (e ∷ es) s = let h = happen-grows es (happens D e s) in (omega (arith, h .0), omega (arith, h .1))
 
-  hears-grows : (s : Stand D) (o : Done (D .State)) → (s .counts .captures ≡ hears D s o .counts .captures) × (s .counts .lentRefusals ≤ hears D s o .counts .lentRefusals)
+  hears-grows : (s : Stand D) (o : Done (D .State)) → (s .counts .captures ≡ hears ours D s o .counts .captures) × (s .counts .lentRefusals ≤ hears ours D s o .counts .lentRefusals)
   unfolding hears
   hears-grows s o = (refl, omega arith)
 
   -- a command that is refused for lent data is counted
-  pub no-lent-refusal : (s : Stand D) (o : Done (D .State)) → hears D s o .counts .lentRefusals ≡ 0 → forLent (o .answer) ≡ false
+  pub no-lent-refusal : (s : Stand D) (o : Done (D .State)) → hears ours D s o .counts .lentRefusals ≡ 0 → forLent (o .answer) ≡ false
   unfolding hears
   no-lent-refusal s o = pick-cases (λ (n : ℕ). s .counts .lentRefusals + n ≡ 0 → forLent (o .answer) ≡ false) (forLent (o .answer)) (λ e z. absurd (omega arith)) (λ e z. e)
 
-  turn-grows : (n : Next) (t : Turn D) (s : Stand D) → (s .counts .captures ≤ turnBy D n t s .counts .captures) × (s .counts .lentRefusals ≤ turnBy D n t s .counts .lentRefusals)
+  turn-grows : (n : Next) (t : Turn D) (s : Stand D) → (s .counts .captures ≤ turnBy ours D n t s .counts .captures) × (s .counts .lentRefusals ≤ turnBy ours D n t s .counts .lentRefusals)
   turn-grows (Send w) t s =
       let a = happen-grows (t .events) s in
       let b = hears-grows (happen D (t .events) s) (D .command (t .lent) w (happen D (t .events) s .source)) in
@@ -97,12 +97,12 @@ module _ (D : Source) (p : Plan) (K : Keeps D p) where
   turn-grows (Ends e) t s = (omega arith, omega arith)
   turn-grows (Refuse n) t s = (omega arith, omega arith)
 
-  pub run-grows : (ts : List (Turn D)) (s : Stand D) → (s .counts .captures ≤ run D ts s .counts .captures) × (s .counts .lentRefusals ≤ run D ts s .counts .lentRefusals)
+  pub run-grows : (ts : List (Turn D)) (s : Stand D) → (s .counts .captures ≤ run ours D ts s .counts .captures) × (s .counts .lentRefusals ≤ run ours D ts s .counts .lentRefusals)
   unfolding run
   run-grows [] s = (omega arith, omega arith)
   run-grows (t ∷ ts) s =
       let a = turn-grows (s .said) t s in
-      let b = run-grows ts (turnBy D (s .said) t s) in
+      let b = run-grows ts (turnBy ours D (s .said) t s) in
       (omega (arith, a .0, b .0), omega (arith, a .1, b .1))
 
   -- the captures since the last header are among those since the first command
@@ -129,28 +129,28 @@ module _ (D : Source) (p : Plan) (K : Keeps D p) where
     abbrev before : Stand D
     before = happen D (t .events) s
 
-    stays : endedBy (s .collection .phase) ≡ true → Inv D p K (turnBy D (s .said) t s)
-    stays g = subst (λ (n : Next). Inv D p K (turnBy D n t s)) (sym (over-by (s .collection .phase) s (i .now) g .said)) i
+    stays : endedBy (s .collection .phase) ≡ true → Inv D p K (turnBy ours D (s .said) t s)
+    stays g = subst (λ (n : Next). Inv D p K (turnBy ours D n t s)) (sym (over-by (s .collection .phase) s (i .now) g .said)) i
 
     -- few captures since the last header, and an attempt left
-    goes : endedBy (s .collection .phase) ≡ false → before .counts .since ≤ 255 → before .counts .captures < p .attempts → turnBy D (s .said) t s .counts .lentRefusals ≡ 0
-        → Inv D p K (turnBy D (s .said) t s)
+    goes : endedBy (s .collection .phase) ≡ false → before .counts .since ≤ 255 → before .counts .captures < p .attempts → turnBy ours D (s .said) t s .counts .lentRefusals ≡ 0
+        → Inv D p K (turnBy ours D (s .said) t s)
     goes g few more none =
         let said = said-by (s .collection .phase) s (i .now) g in
         let st : before .collection ≡ s .collection = happen-state (t .events) s in
         let w : awaitedOf (before .collection) ≡ awaitedOf (s .collection) = ap awaitedOf st in
-        let fair = no-lent-refusal before (D .command (t .lent) (awaitedOf (s .collection)) (before .source)) (subst (λ (n : Next). turnBy D n t s .counts .lentRefusals ≡ 0) said none) in
-        subst (λ (n : Next). Inv D p K (turnBy D n t s)) (sym said)
+        let fair = no-lent-refusal before (D .command (t .lent) (awaitedOf (s .collection)) (before .source)) (subst (λ (n : Next). turnBy ours D n t s .counts .lentRefusals ≡ 0) said none) in
+        subst (λ (n : Next). Inv D p K (turnBy ours D n t s)) (sym said)
         (rw w at (own-inv before (t .lent) (happen-inv D p K (t .events) s g i) (rw st g) few more (rw w fair)))
 
-    turn-captures : endedBy (s .collection .phase) ≡ false → before .counts .captures ≡ turnBy D (s .said) t s .counts .captures
+    turn-captures : endedBy (s .collection .phase) ≡ false → before .counts .captures ≡ turnBy ours D (s .said) t s .counts .captures
     turn-captures g =
         let said = said-by (s .collection .phase) s (i .now) g in
-        subst (λ (n : Next). before .counts .captures ≡ turnBy D n t s .counts .captures) (sym said)
+        subst (λ (n : Next). before .counts .captures ≡ turnBy ours D n t s .counts .captures) (sym said)
         (hears-grows before (D .command (t .lent) (awaitedOf (s .collection)) (before .source)) .0)
 
     -- k bounds the captures of the whole run, so those of each attempt too
-    turn-inv : (k : ℕ) → k ≤ 255 → k < p .attempts → turnBy D (s .said) t s .counts .captures ≤ k → turnBy D (s .said) t s .counts .lentRefusals ≡ 0 → Inv D p K (turnBy D (s .said) t s)
+    turn-inv : (k : ℕ) → k ≤ 255 → k < p .attempts → turnBy ours D (s .said) t s .counts .captures ≤ k → turnBy ours D (s .said) t s .counts .lentRefusals ≡ 0 → Inv D p K (turnBy ours D (s .said) t s)
     turn-inv k few more l none =
         by-test (endedBy (s .collection .phase)) (λ g. stays g)
         (λ g.
@@ -160,28 +160,28 @@ module _ (D : Source) (p : Plan) (K : Keeps D p) where
 
   -- ---- a run
 
-  pub run-inv : (k : ℕ) → k ≤ 255 → k < p .attempts → (ts : List (Turn D)) (s : Stand D) → Inv D p K s → run D ts s .counts .captures ≤ k → run D ts s .counts .lentRefusals ≡ 0
-      → Inv D p K (run D ts s)
+  pub run-inv : (k : ℕ) → k ≤ 255 → k < p .attempts → (ts : List (Turn D)) (s : Stand D) → Inv D p K s → run ours D ts s .counts .captures ≤ k → run ours D ts s .counts .lentRefusals ≡ 0
+      → Inv D p K (run ours D ts s)
   unfolding run
   run-inv k few more [] s i l none = i
   run-inv k few more (t ∷ ts) s i l none =
-      let g = run-grows ts (turnBy D (s .said) t s) in
-      run-inv k few more ts (turnBy D (s .said) t s) (turn-inv t s i k few more (omega (arith, g .0, l)) (omega (arith, g .1, none))) l none
+      let g = run-grows ts (turnBy ours D (s .said) t s) in
+      run-inv k few more ts (turnBy ours D (s .said) t s) (turn-inv t s i k few more (omega (arith, g .0, l)) (omega (arith, g .1, none))) l none
 
   -- while a run goes on each turn counts one command more
 
-  pub hears-counts : (s : Stand D) (o : Done (D .State)) → hears D s o .collection .count ≡ s .collection .count + length (given (hears D s o .said))
+  pub hears-counts : (s : Stand D) (o : Done (D .State)) → hears ours D s o .collection .count ≡ s .collection .count + length (given (hears ours D s o .said))
   unfolding hears
   hears-counts s o = step-counts (s .collection) (fine o) (dataOf o) (length (s .copy)) .count
 
-  pub going-counts : (ts : List (Turn D)) (s : Stand D) → length (given (run D ts s .said)) ≡ 1 → (run D ts s .collection .count ≡ s .collection .count + length ts) × (length (given (s .said)) ≡ 1)
+  pub going-counts : (ts : List (Turn D)) (s : Stand D) → length (given (run ours D ts s .said)) ≡ 1 → (run ours D ts s .collection .count ≡ s .collection .count + length ts) × (length (given (s .said)) ≡ 1)
   unfolding run
   going-counts [] s e = (omega arith, e)
-  going-counts (t ∷ ts) s e = by (s .said) refl (going-counts ts (turnBy D (s .said) t s) e)
+  going-counts (t ∷ ts) s e = by (s .said) refl (going-counts ts (turnBy ours D (s .said) t s) e)
     where
       by : (n : Next) → s .said ≡ n
-          → (run D ts (turnBy D n t s) .collection .count ≡ turnBy D n t s .collection .count + length ts) × (length (given (turnBy D n t s .said)) ≡ 1)
-          → (run D ts (turnBy D n t s) .collection .count ≡ s .collection .count + length (t ∷ ts)) × (length (given (s .said)) ≡ 1)
+          → (run ours D ts (turnBy ours D n t s) .collection .count ≡ turnBy ours D n t s .collection .count + length ts) × (length (given (turnBy ours D n t s .said)) ≡ 1)
+          → (run ours D ts (turnBy ours D n t s) .collection .count ≡ s .collection .count + length (t ∷ ts)) × (length (given (s .said)) ≡ 1)
       by (Send w) q r =
           let b : Stand D = happen D (t .events) s in
           let h = hears-counts b (D .command (t .lent) w (b .source)) in

@@ -1,0 +1,126 @@
+-- The runs, computed from the definitions.
+-- Assumes nothing.
+use Prim.Native.Nat.{ℕ, _-_}
+use mathlib.Core.Path.{_≡_, refl}
+use mathlib.Core.List.{List, [], _∷_, _++_}
+use mathlib.Core.Bool.{false}
+use lib.ListN.{replicate, length, getD}
+use Rattle.choices.specs.Tests.{holds}
+use Rattle.copies.specs.Parts.{zeros, putAt}
+use Rattle.pages.specs.Pages.{lastOk, greatestOf, blocksOf, sizeOf, topOf, trimmedTo, trimOf}
+use Rattle.words.specs.Words.{taken, builtOf}
+use Rattle.header.specs.Header.{headerOf, faultOf, noFields, checkOf}
+use Rattle.records.specs.Records.{identityOk, storeOk, controllerOk, agreesWith, hostFields, controllerFields, fieldsFor}
+use Rattle.serving.specs.Serving.{windowOf, pageBytes}
+use Rattle.verdicts.specs.Verdicts.{candidateOk, fieldBad, lastAfter, commandAnswer, captureAnswer}
+use Rattle.plans.specs.Plans.{chunkBlocks, setupAnswer, fitsRoom, withinBy, phaseAt, wordsBy}
+use Rattle.plans.specs.declared.Plan.{Plan}
+use Rattle.plans.specs.declared.Phase.the-variants.{First}
+use Rattle.completions.specs.Completions.{lookBy, seenOf, generationOf, touched}
+use Rattle.judgement.specs.declared.Ending.{Ending}
+use Rattle.judgement.specs.declared.Ending.the-variants.{Success, UsedUp, BrokeItsWord}
+use Rattle.judgement.specs.Judgement.{judgeBy, testsOf, firstOrder, matchOrder, laterOrder}
+use Rattle.turns.specs.Turns.{turnOf}
+use Rattle.collection.specs.Collection.{setupOf, stepOf, decideOf, refusalOf, validState, completionFits, expectedOf, lookOf, moveOf, turnBy, actOf as moved, awaitedOf, beginning, copyAfter}
+use Rattle.collection.specs.declared.Next.{Next}
+use Rattle.collection.specs.declared.Next.the-variants.{Send, End as Ends}
+use Rattle.controller.specs.Controller.{commandOf, captureOf, captureAnswered, controllerCaptured, answered, before, afterwards, sentOf, pageOf, hostCaptured}
+use Rattle.runs.specs.Run.{mostChunks}
+use Rattle.sources.specs.Source.{Collector, ours, Turn, Stand, happens, happen, hears, run, begun, collected}
+use Rattle.demand3.specs.Bench.{Sent, Taken, actOf, capturesOf, ownOf, controllerSource}
+use Rattle.demand3.specs.Shown.{wantedArea}
+use Rattle.demand3.specs.Demand3.{final}
+use Rattle.worked_runs.specs.Scene.{blockOf, drive, hostDrive, newer, created, createWords, lentOf, planOf, hostPlan, stale, quiet, after}
+use Rattle.worked_runs.specs.Lazy.{stopsWith, neverStops, readsOnce, comparesNothing, fakesTheRest, inventsItsCount}
+
+-- a run of a collector on 08h, with so many attempts, buffers of so many bytes and these turns
+abbrev pub runOf : Collector → ℕ → ℕ → List (Turn (controllerSource 8)) → Stand (controllerSource 8)
+runOf c attempts bytes ts = final c (planOf attempts) (stale 1024) drive (lentOf bytes) ts
+
+-- as many turns as an undisturbed run needs
+abbrev pub undisturbed : List (Turn (controllerSource 8))
+undisturbed = after 8 512 [] 2
+
+-- a capture between the two chunks of the first attempt, and so many commands after those
+abbrev pub disturbed : ℕ → List (Turn (controllerSource 8))
+disturbed n = after 8 512 (Taken newer ∷ []) n
+
+-- 256 captures there, and two commands after the chunks
+abbrev pub round : List (Turn (controllerSource 8))
+round = after 8 512 (replicate 256 (Taken newer)) 2
+
+-- another host's create after the first chunk of 07h
+abbrev pub hostDisturbed : List (Turn (controllerSource 7))
+hostDisturbed = after 7 1024 (Sent createWords created (stale 512) ∷ []) 6
+
+abbrev pub hostRun : Stand (controllerSource 7)
+hostRun = final ours hostPlan (stale 3072) hostDrive (lentOf 1024) hostDisturbed
+
+-- what came of a run: what was said last, the copy, the wanted area at the last check, the captures, the commands answered 3, 4 or 5, the commands
+-- given, and C
+pub record Came (p : Plan) (s : Stand (controllerSource (p .page))) (said : Next) (copy area : List ℕ) (captures refused sent chunks : ℕ) : Type 0 where
+  pub said-is : s .said ≡ said
+  pub copy-is : s .copy ≡ copy
+  pub area-is : wantedArea p (s .checked) ≡ area
+  pub captures-are : s .counts .captures ≡ captures
+  pub refused-are : s .counts .lentRefusals ≡ refused
+  pub sent-are : length (s .sent) ≡ sent
+  pub chunks-are : mostChunks p (s .headers) ≡ chunks
+
+abbrev pub endsWith : Ending → ℕ → Next
+endsWith e count = Ends (record { ending = e; count = count })
+
+-- the page before the capture and after it, and the first block of the one before the second block of the other
+abbrev pub old : List ℕ
+old = blockOf 5 ++ blockOf 6
+
+abbrev pub new : List ℕ
+new = blockOf 7 ++ blockOf 8
+
+abbrev pub mixed : List ℕ
+mixed = blockOf 5 ++ blockOf 8
+
+pub record Computed : Type 0 where
+  -- ours
+  pub ours-undisturbed : Came (planOf 2) (runOf ours 2 512 undisturbed) (endsWith (Success false) 5) old old 0 0 5 2
+  pub ours-disturbed : Came (planOf 2) (runOf ours 2 512 (disturbed 5)) (endsWith (Success false) 8) new new 1 0 8 2
+  pub ours-host : Came hostPlan hostRun (endsWith (Success false) 9) (replicate 2560 3 ++ zeros 512) (replicate 2560 3) 1 0 9 3
+  -- lazy collectors
+  pub stopped : (e : Ending) → Came (planOf 2) (runOf (stopsWith e) 2 512 undisturbed) (endsWith e 1) (zeros 1024) old 0 0 1 2
+  pub stopped-live : (e : Ending) → runOf (stopsWith e) 2 512 undisturbed .checked .own .controller .tcda ≡ 1
+  pub read-once : Came (planOf 2) (runOf readsOnce 2 512 (disturbed 5)) (endsWith (Success false) 3) mixed old 1 0 3 2
+  pub compared-nothing : Came (planOf 2) (runOf comparesNothing 2 512 (disturbed 5)) (endsWith (Success false) 5) mixed new 1 0 5 2
+  pub faked : Came (planOf 2) (runOf fakesTheRest 2 512 undisturbed) (endsWith (Success false) 5) (blockOf 5 ++ blockOf 9) old 0 0 5 2
+  pub invented : Came (planOf 2) (runOf inventsItsCount 2 512 undisturbed) (endsWith (Success false) 6) old old 0 0 5 2
+  pub going-on : Came (planOf 2) (runOf neverStops 2 512 undisturbed) (Send (awaitedOf (beginning (planOf 2) First 1))) (stale 1024) old 0 0 6 2
+  -- ours, without a premise
+  pub used-up : Came (planOf 1) (runOf ours 1 512 (disturbed 1)) (endsWith UsedUp 4) (zeros 1024) new 1 0 4 2
+  pub short : Came (planOf 2) (runOf ours 2 511 []) (endsWith BrokeItsWord 1) (zeros 1024) old 0 1 1 0
+
+pub computed : Computed
+unfolding chunkBlocks captureOf captureAnswered controllerCaptured captureAnswer final collected run happen happens hears begun setupOf setupAnswer holds stepOf decideOf refusalOf validState withinBy fitsRoom completionFits expectedOf lookOf lookBy seenOf checkOf faultOf lastOk generationOf moveOf judgeBy testsOf firstOrder matchOrder laterOrder turnBy turnOf moved awaitedOf wordsBy builtOf taken phaseAt copyAfter touched putAt commandOf answered commandAnswer agreesWith storeOk controllerOk identityOk greatestOf fieldBad lastAfter candidateOk sizeOf blocksOf topOf trimmedTo trimOf before afterwards sentOf pageOf pageBytes windowOf headerOf hostFields controllerFields fieldsFor hostCaptured ownOf actOf capturesOf quiet wantedArea mostChunks noFields
+computed = record {
+  ours-undisturbed = record { said-is = refl; copy-is = refl; area-is = refl; captures-are = refl; refused-are = refl; sent-are = refl; chunks-are = refl };
+  ours-disturbed = record { said-is = refl; copy-is = refl; area-is = refl; captures-are = refl; refused-are = refl; sent-are = refl; chunks-are = refl };
+  ours-host = record { said-is = refl; copy-is = refl; area-is = refl; captures-are = refl; refused-are = refl; sent-are = refl; chunks-are = refl };
+  stopped = λ e. record { said-is = refl; copy-is = refl; area-is = refl; captures-are = refl; refused-are = refl; sent-are = refl; chunks-are = refl };
+  stopped-live = λ e. refl;
+  read-once = record { said-is = refl; copy-is = refl; area-is = refl; captures-are = refl; refused-are = refl; sent-are = refl; chunks-are = refl };
+  compared-nothing = record { said-is = refl; copy-is = refl; area-is = refl; captures-are = refl; refused-are = refl; sent-are = refl; chunks-are = refl };
+  faked = record { said-is = refl; copy-is = refl; area-is = refl; captures-are = refl; refused-are = refl; sent-are = refl; chunks-are = refl };
+  invented = record { said-is = refl; copy-is = refl; area-is = refl; captures-are = refl; refused-are = refl; sent-are = refl; chunks-are = refl };
+  going-on = record { said-is = refl; copy-is = refl; area-is = refl; captures-are = refl; refused-are = refl; sent-are = refl; chunks-are = refl };
+  used-up = record { said-is = refl; copy-is = refl; area-is = refl; captures-are = refl; refused-are = refl; sent-are = refl; chunks-are = refl };
+  short = record { said-is = refl; copy-is = refl; area-is = refl; captures-are = refl; refused-are = refl; sent-are = refl; chunks-are = refl };
+}
+
+-- with 256 captures between the chunks the generation has come round: the copy begins as the page before and goes on as the one after
+pub record Round : Type 0 where
+  pub said-is : runOf ours 256 512 round .said ≡ endsWith (Success false) 5
+  pub begins : getD (runOf ours 256 512 round .copy) 0 0 ≡ 5
+  pub goes-on : getD (runOf ours 256 512 round .copy) 512 0 ≡ 8
+  pub wanted : getD (wantedArea (planOf 256) (runOf ours 256 512 round .checked) ++ zeros (1024 - length (wantedArea (planOf 256) (runOf ours 256 512 round .checked)))) 0 0 ≡ 7
+
+pub round-computed : Round
+unfolding chunkBlocks captureOf captureAnswered controllerCaptured captureAnswer final collected run happen happens hears begun setupOf setupAnswer holds stepOf decideOf refusalOf validState withinBy fitsRoom completionFits expectedOf lookOf lookBy seenOf checkOf faultOf lastOk generationOf moveOf judgeBy testsOf firstOrder matchOrder laterOrder turnBy turnOf moved awaitedOf wordsBy builtOf taken phaseAt copyAfter touched putAt commandOf answered commandAnswer agreesWith storeOk controllerOk identityOk greatestOf fieldBad lastAfter candidateOk sizeOf blocksOf topOf trimmedTo trimOf before afterwards sentOf pageOf pageBytes windowOf headerOf hostFields controllerFields fieldsFor hostCaptured ownOf actOf capturesOf quiet wantedArea
+round-computed = record { said-is = refl; begins = refl; goes-on = refl; wanted = refl }

@@ -1,0 +1,4 @@
+pub mod Scene
+pub mod Lazy
+pub mod Computed
+pub mod Refuted

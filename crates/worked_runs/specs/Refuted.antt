@@ -1,0 +1,163 @@
+-- What the runs show. Ours is all that demand 3 asks for and takes as many commands as the bound allows. Each lazy collector has a run that is all that is asked
+-- for and breaks what is promised. And without a premise ours breaks it too.
+-- Assumes nothing.
+use Prim.Native.Nat.{ℕ, _-_, _<_}
+use mathlib.Core.Path.{_≡_, refl, sym, ap, _∙_}
+use mathlib.Core.List.{List, [], _++_}
+use mathlib.Core.Bool.{Bool, false}
+use native.Mathlib.Omega.{arith}
+use lib.ListN.{length, getD, replicate}
+use Rattle.choices.specs.Tests.{holds}
+use Rattle.copies.specs.Parts.{zeros}
+use Rattle.pages.specs.Pages.{lastOk, greatestOf}
+use Rattle.records.specs.Records.{identityOk, storeOk, controllerOk, agreesWith}
+use Rattle.records.specs.Back.{Typed, agreed-typed}
+use Rattle.plans.specs.Plans.{setupAnswer}
+use Rattle.judgement.specs.declared.Ending.{Ending}
+use Rattle.judgement.specs.declared.Ending.the-variants.{Success, UsedUp, BrokeItsWord}
+use Rattle.collection.specs.declared.Finish.{Finish}
+use Rattle.collection.specs.declared.Next.{Next}
+use Rattle.collection.specs.declared.Next.the-variants.{Send, End as Ends}
+use Rattle.runs.specs.Run.{mostChunks}
+use Rattle.sources.specs.Source.{Collector, ours, Turn}
+use Rattle.sources.specs.Promise.{mostCommands}
+use Rattle.demand3.specs.Bench.{controllerSource}
+use Rattle.demand3.specs.Shown.{showsFor, area-long}
+use Rattle.demand3.specs.Demand3.{Asked, TrueEnding, succeeded-by, room-short, gone, never-there, Demand3}
+use Rattle.worked_runs.specs.Scene.{drive, hostDrive, lentOf, planOf, hostPlan, stale}
+use Rattle.worked_runs.specs.Lazy.{stopsWith, neverStops, readsOnce, comparesNothing, fakesTheRest, inventsItsCount}
+use Rattle.worked_runs.specs.Computed.{runOf, undisturbed, disturbed, round, hostDisturbed, hostRun, Came, endsWith, old, new, mixed, computed, round-computed}
+
+-- ---- what is asked for
+
+typed : Typed (drive .own)
+unfolding agreesWith storeOk controllerOk identityOk greatestOf lastOk holds
+typed = agreed-typed (drive .own) 0 1024 refl (record { host-four = refl; host-reason = refl; controller-four = refl; controller-reason = refl }) (omega arith) (omega arith)
+
+-- of a run of any collector with two attempts and one capture at most
+abbrev pub Meant : Collector → List (Turn (controllerSource 8)) → ℕ → Type 0
+Meant c ts k = Asked c (planOf 2) (stale 1024) drive (lentOf 512) ts k
+
+-- what is promised of it
+abbrev pub Promised : Collector → List (Turn (controllerSource 8)) → ℕ → Type 0
+Promised c ts k = Demand3 c (planOf 2) (stale 1024) drive (lentOf 512) ts k
+
+meant : (c : Collector) (ts : List (Turn (controllerSource 8))) (k : ℕ) {said : Next} {copy area : List ℕ} {sent chunks : ℕ} → k < 2
+    → Came (planOf 2) (runOf c 2 512 ts) said copy area k 0 sent chunks → Meant c ts k
+unfolding setupAnswer holds
+meant c ts k l x = record { taken = refl; caps = refl; room = refl; typed = typed; attempts = l; captures = omega (arith, x .captures-are); spared = x .refused-are }
+
+-- ---- ours
+
+-- On 08h, with a capture between its chunks, generation 255 to 0: the copy is the page after it, the nines are gone, and 8 commands are as many as k = 1 and
+-- the C of its headers allow.
+pub ours-disturbed : Meant ours (disturbed 5) 1
+    × (runOf ours 2 512 (disturbed 5) .said ≡ endsWith (Success false) 8)
+    × (runOf ours 2 512 (disturbed 5) .copy ≡ new)
+    × (mostCommands (planOf 2) 1 (mostChunks (planOf 2) (runOf ours 2 512 (disturbed 5) .headers)) ≡ 8)
+ours-disturbed =
+    let x = computed .ours-disturbed in
+    (meant ours (disturbed 5) 1 (omega arith) x, x .said-is, x .copy-is, ap (mostCommands (planOf 2) 1) (x .chunks-are))
+
+host-typed : Typed (hostDrive .own)
+unfolding agreesWith storeOk controllerOk identityOk greatestOf lastOk holds
+host-typed = agreed-typed (hostDrive .own) 2560 0 refl (record { host-four = refl; host-reason = refl; controller-four = refl; controller-reason = refl }) (omega arith) (omega arith)
+
+-- On 07h, three chunks of an area of five blocks, another host's create after the first: nine commands, again as many as the bound allows.
+pub ours-host : Asked ours hostPlan (stale 3072) hostDrive (lentOf 1024) hostDisturbed 1
+    × (hostRun .said ≡ endsWith (Success false) 9)
+    × (hostRun .copy ≡ replicate 2560 3 ++ zeros 512)
+    × (mostCommands hostPlan 1 (mostChunks hostPlan (hostRun .headers)) ≡ 9)
+unfolding setupAnswer holds
+ours-host =
+    let x = computed .ours-host in (
+      record { taken = refl; caps = refl; room = refl; typed = host-typed; attempts = omega arith; captures = omega (arith, x .captures-are); spared = x .refused-are },
+      x .said-is,
+      x .copy-is,
+      ap (mostCommands hostPlan 1) (x .chunks-are),
+    )
+
+-- ---- lazy collectors
+
+-- a success whose copy has another byte than the area breaks the promise
+wrong-copy : (c : Collector) (ts : List (Turn (controllerSource 8))) (k i n : ℕ) {t : Bool} {copy area : List ℕ} {sent chunks captures refused : ℕ}
+    → Came (planOf 2) (runOf c 2 512 ts) (endsWith (Success t) n) copy area captures refused sent chunks
+    → (getD copy i 0 ≡ getD (area ++ zeros (1024 - length area)) i 0 → ⊥) → Promised c ts k → ⊥
+wrong-copy c ts k i n {t = t} x differs d = by (d .ended (record { ending = Success t; count = n }) (x .said-is))
+  where
+    by : TrueEnding c (planOf 2) (stale 1024) drive (lentOf 512) ts (record { ending = Success t; count = n }) (runOf c 2 512 ts .checked) → ⊥
+    by (succeeded-by a q l) = differs (ap (λ (y : List ℕ). getD y i 0) (sym (x .copy-is) ∙ q ∙ ap (λ (y : List ℕ). y ++ zeros (1024 - length y)) (x .area-is)))
+    by (room-short a q l) = absurd (omega arith)
+    by (gone a q l m o) = absurd (omega arith)
+    by (never-there a q l m o) = absurd (omega arith)
+
+-- One that always stops, whatever it says.
+pub stops-refuted : (e : Ending) → Meant (stopsWith e) undisturbed 0 × (Promised (stopsWith e) undisturbed 0 → ⊥)
+unfolding showsFor
+stops-refuted e =
+    let x = computed .stopped e in
+    (meant (stopsWith e) undisturbed 0 (omega arith) x, λ d. by x (d .ended (record { ending = e; count = 1 }) (x .said-is)))
+  where
+    by : Came (planOf 2) (runOf (stopsWith e) 2 512 undisturbed) (endsWith e 1) (zeros 1024) old 0 0 1 2
+        → TrueEnding (stopsWith e) (planOf 2) (stale 1024) drive (lentOf 512) undisturbed (record { ending = e; count = 1 }) (runOf (stopsWith e) 2 512 undisturbed .checked) → ⊥
+    by x (succeeded-by a q l) =
+        let z : _≡_ {A = ℕ} 0 5 = ap (λ (y : List ℕ). getD y 0 0) (sym (x .copy-is) ∙ q ∙ ap (λ (y : List ℕ). y ++ zeros (1024 - length y)) (x .area-is)) in
+        absurd (omega arith)
+    by x (room-short a q l) =
+        let n = sym (area-long (planOf 2) (runOf (stopsWith e) 2 512 undisturbed .checked)) ∙ ap length (x .area-is) in
+        absurd (omega (arith, l, n))
+    by x (gone a q l m o) = absurd (omega (arith, o, x .sent-are))
+    by x (never-there a q l m o) = absurd (omega (arith, m, computed .stopped-live e))
+
+-- One that never stops.
+pub never-stops-refuted : Meant neverStops undisturbed 0 × (Promised neverStops undisturbed 0 → ⊥)
+never-stops-refuted =
+    let x = computed .going-on in
+    (meant neverStops undisturbed 0 (omega arith) x, λ d. let f = d .ends (omega (arith, x .chunks-are)) in clashes (sym (x .said-is) ∙ f .said))
+  where
+    clashes : {w : _} {e : Finish} → Send w ≡ Ends e → ⊥
+    clashes q = let z : _≡_ {A = ℕ} 0 1 = cc in omega arith
+
+-- One that reads the generation once: its copy is stitched from two captures.
+pub reads-once-refuted : Meant readsOnce (disturbed 5) 1 × (runOf readsOnce 2 512 (disturbed 5) .copy ≡ mixed) × (Promised readsOnce (disturbed 5) 1 → ⊥)
+reads-once-refuted =
+    let x = computed .read-once in
+    (meant readsOnce (disturbed 5) 1 (omega arith) x, x .copy-is, wrong-copy readsOnce (disturbed 5) 1 512 3 x (λ z. omega arith))
+
+-- One that reads it again and compares nothing.
+pub compares-nothing-refuted : Meant comparesNothing (disturbed 5) 1 × (runOf comparesNothing 2 512 (disturbed 5) .copy ≡ mixed) × (Promised comparesNothing (disturbed 5) 1 → ⊥)
+compares-nothing-refuted =
+    let x = computed .compared-nothing in
+    (meant comparesNothing (disturbed 5) 1 (omega arith) x, x .copy-is, wrong-copy comparesNothing (disturbed 5) 1 0 5 x (λ z. omega arith))
+
+-- One that does its first chunk and fakes the rest.
+pub fakes-refuted : Meant fakesTheRest undisturbed 0 × (Promised fakesTheRest undisturbed 0 → ⊥)
+fakes-refuted =
+    let x = computed .faked in
+    (meant fakesTheRest undisturbed 0 (omega arith) x, wrong-copy fakesTheRest undisturbed 0 512 5 x (λ z. omega arith))
+
+-- One that invents its count.
+pub invents-refuted : Meant inventsItsCount undisturbed 0 × (Promised inventsItsCount undisturbed 0 → ⊥)
+invents-refuted =
+    let x = computed .invented in
+    (meant inventsItsCount undisturbed 0 (omega arith) x, λ d. omega (arith, d .says (record { ending = Success false; count = 6 }) (x .said-is), x .sent-are))
+
+-- ---- premises
+
+-- k attempts for k captures end with 9.
+pub attempts-needed : (runOf ours 1 512 (disturbed 1) .counts .captures ≡ 1) × (runOf ours 1 512 (disturbed 1) .said ≡ endsWith UsedUp 4)
+attempts-needed = let x = computed .used-up in (x .captures-are, x .said-is)
+
+-- A buffer that is too short for a command of the run ends it with 12.
+pub buffers-needed : (runOf ours 2 511 [] .counts .lentRefusals ≡ 1) × (runOf ours 2 511 [] .said ≡ endsWith BrokeItsWord 1)
+buffers-needed = let x = computed .short in (x .refused-are, x .said-is)
+
+-- 256 captures in an attempt, which 256 attempts do not allow for, mix two copies.
+pub few-needed : Demand3 ours (planOf 256) (stale 1024) drive (lentOf 512) round 256 → ⊥
+few-needed d = by (d .ended (record { ending = Success false; count = 5 }) (round-computed .said-is))
+  where
+    by : TrueEnding ours (planOf 256) (stale 1024) drive (lentOf 512) round (record { ending = Success false; count = 5 }) (runOf ours 256 512 round .checked) → ⊥
+    by (succeeded-by a q l) = omega (arith, sym (round-computed .begins) ∙ ap (λ (y : List ℕ). getD y 0 0) q ∙ round-computed .wanted)
+    by (room-short a q l) = absurd (omega arith)
+    by (gone a q l m o) = absurd (omega arith)
+    by (never-there a q l m o) = absurd (omega arith)
