@@ -96,8 +96,9 @@ enum {
 };
 
 /* A collection's state. 56 bytes. Lend it back as it was given. One that is damaged (`phase` over 5, `create` over 1, `caps` over 31, `zero`
- * not zero, or `at` not zero in a phase other than 1) gets 13, and so does one whose numbers break setup's limits, whose `attempt` is not 1 to
- * `attempts`, whose `count` is over 2 + `attempts` * 1,048,577, whose area does not fit `room`, or whose chunk starts outside the area. */
+ * not zero, or `at` not zero in a phase other than 1) gets 13. One that has ended (`phase` 5) gets 14, whatever its other numbers are. Any
+ * other gets 13 where its numbers break setup's limits, `attempt` is not 1 to `attempts`, `count` is over 2 + `attempts` * 1,048,577, its area
+ * does not fit `room`, or its chunk starts outside the area. */
 struct bumbazeel_state {
     uint8_t phase;      /*  0: what is awaited, one of those above */
     uint8_t page;       /*  1 */
