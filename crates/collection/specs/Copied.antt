@@ -116,10 +116,10 @@ module _ (s : Collection) (d copy : List ℕ) (e : Finish) (w : areaBytes (s .pl
     first = λ f r. goes-on h (Open false) _ refl;
     again = λ f l r. goes-on h (Open true) _ refl;
     more = λ at f y. goes-on h (More at) _ refl;
-    skip = λ at f. goes-on h Skip _ refl;
+    skip = λ at f n. goes-on h Skip _ refl;
     acknowledge = λ f p. goes-on h Acknowledge _ refl;
-    stand = λ f. ended h (Success false) false;
-    done = λ f. ended h (Success (newerThan (s .attempt) h)) false;
+    stand = λ f n. ended h (Success false) false;
+    done = λ f y. ended h (Success (newerThan (s .attempt) h)) false;
   }
 
 pub ending-copy : (s : Collection) (ok : Bool) (d copy : List ℕ) (e : Finish) → stepOf s ok d (length copy) .next ≡ Ends e
@@ -151,9 +151,9 @@ sending-copy s ok d copy x q other =
       first = λ f l p. refl;
       again = λ f l a p. refl;
       more = λ at f y. absurd (other at f y);
-      skip = λ at f p. refl;
+      skip = λ at f n p. refl;
       acknowledge = λ f w p. refl;
-      stand = λ f p. not-sent (sym p);
-      done = λ f p. not-sent (sym p);
+      stand = λ f n p. not-sent (sym p);
+      done = λ f y p. not-sent (sym p);
     }) (rw (taken-step s ok d (length copy) r) at q))
     (λ r. refused-copy s ok d copy r)

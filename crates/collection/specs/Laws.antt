@@ -94,6 +94,10 @@ decide-no s ok bytes copy h n r en z er = er ∙ rw (ne-eqb (refusalOf s ok byte
 
 -- ---- the move that a completion calls for
 
+not-so : (t : Bool) → not t ≡ true → t ≡ false
+not-so true e = sym e
+not-so false e = refl
+
 -- all moves that a completion can call for in a state, each with what holds then
 pub record Moves (P : Move → Type 0) (s : Collection) (ok : Bool) (h : Seen) : Type 0 where
   pub fail : (e : Ending) → good e ≡ false → P (End e false)
@@ -101,10 +105,10 @@ pub record Moves (P : Move → Type 0) (s : Collection) (ok : Bool) (h : Seen) :
   pub first : s .phase ≡ First → fitsRoom (s .plan) (h .last) ≡ true → P (Open false)
   pub again : closingBy (s .phase) ≡ true → s .attempt .number < s .plan .attempts → fitsRoom (s .plan) (h .last) ≡ true → P (Open true)
   pub more : (at : ℕ) → s .phase ≡ Chunk at → ok ≡ true → P (More at)
-  pub skip : (at : ℕ) → s .phase ≡ Chunk at → P Skip
+  pub skip : (at : ℕ) → s .phase ≡ Chunk at → ok ≡ false → P Skip
   pub acknowledge : s .phase ≡ Close false → s .plan .page ≡ controllerPage → P Acknowledge
-  pub stand : s .phase ≡ Close false → P (End (Success false) false)
-  pub done : s .phase ≡ Ack → P (End (Success (newerThan (s .attempt) h)) false)
+  pub stand : s .phase ≡ Close false → eqb (s .plan .page) controllerPage ≡ false → P (End (Success false) false)
+  pub done : s .phase ≡ Ack → ok ≡ true → P (End (Success (newerThan (s .attempt) h)) false)
 
 -- what holds of all of them holds of the one that it calls for
 module _ (P : Move → Type 0) (s : Collection) (ok : Bool) (h : Seen) (m : Moves P s ok h) where
@@ -118,7 +122,7 @@ module _ (P : Move → Type 0) (s : Collection) (ok : Bool) (h : Seen) (m : Move
       let a : after ≡ false = rw q at b in
       m .acknowledge (e ∙ ap Close a) (eqb-true _ _ (and-right (matches (s .attempt) h) (eqb (s .plan .page) controllerPage) w)))
       (λ w. pick-cases P (matches (s .attempt) h)
-      (λ q. let a : after ≡ false = rw q at b in m .stand (e ∙ ap Close a))
+      (λ q. let a : after ≡ false = rw q at b in m .stand (e ∙ ap Close a) (rw q at w))
       (λ q. pick-cases P (leb (s .plan .attempts) (s .attempt .number)) (λ u. m .fail UsedUp refl)
       (λ u. let l = leb-false (s .plan .attempts) (s .attempt .number) u in
       pick-cases P (not (fitsRoom (s .plan) (h .last))) (λ r. m .large f l) (λ r. m .again f l (no-not _ r))))))
@@ -130,12 +134,12 @@ module _ (P : Move → Type 0) (s : Collection) (ok : Bool) (h : Seen) (m : Move
       (λ k. pick-cases P (not (faultless (h .fault))) (λ g. m .fail (BadHeader (h .fault)) refl)
       (λ g. pick-cases P (showsNone (s .plan) h) (λ n. m .fail Nothing refl)
       (λ n. pick-cases P (not (fitsRoom (s .plan) (h .last))) (λ r. m .fail NoRoom refl) (λ r. m .first e (no-not _ r)))))
-  by-phase (Chunk at) e = pick-cases P (not ok) (λ k. m .skip at e) (λ k. m .more at e (no-not _ k))
+  by-phase (Chunk at) e = pick-cases P (not ok) (λ k. m .skip at e (not-so ok k)) (λ k. m .more at e (no-not _ k))
   by-phase (Close after) e =
       pick-cases P (not ok) (λ k. m .fail BrokeItsWord refl)
       (λ k. pick-cases P (not (faultless (h .fault))) (λ g. m .fail (BadHeader (h .fault)) refl)
       (λ g. pick-cases P (showsNone (s .plan) h) (λ n. m .fail Withdrawn refl) (λ n. by-match after e)))
-  by-phase Ack e = pick-cases P (not ok) (λ k. m .fail BrokeItsWord refl) (λ k. m .done e)
+  by-phase Ack e = pick-cases P (not ok) (λ k. m .fail BrokeItsWord refl) (λ k. m .done e (no-not _ k))
   by-phase Ended e = m .fail BrokeItsWord refl
 
   pub move-cases : P (moveOf s ok h)

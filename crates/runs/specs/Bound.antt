@@ -208,10 +208,10 @@ module _ (most : ℕ) (s : Collection) (h : Seen) (r : Reached most s) where
     first = λ f w. first f w;
     again = λ f l w. again f l w;
     more = λ at f y. more at f;
-    skip = λ at f. skip at f;
+    skip = λ at f n. skip at f;
     acknowledge = λ f p. acknowledge f p;
-    stand = λ f. over (Success false);
-    done = λ f. over _;
+    stand = λ f n. over (Success false);
+    done = λ f y. over _;
   })
 
 -- a larger bound holds too

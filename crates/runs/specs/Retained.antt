@@ -75,7 +75,7 @@ at-later : (at b : ℕ) → laterBy (phaseAt at b) ≡ true
 unfolding phaseAt
 at-later at b = pick-cases (λ (f : Phase). laterBy f ≡ true) (leb at b) (λ e. refl) (λ e. refl)
 
-at-no-ack : (at b : ℕ) → ackBy (phaseAt at b) ≡ false
+pub at-no-ack : (at b : ℕ) → ackBy (phaseAt at b) ≡ false
 unfolding phaseAt
 at-no-ack at b = pick-cases (λ (f : Phase). ackBy f ≡ false) (leb at b) (λ e. refl) (λ e. refl)
 
@@ -113,10 +113,10 @@ gave s ok h w = move-cases (Gave s h w) s ok h (record {
     later = at-later (at + s .plan .chunk) (areaLast (s .plan) (s .attempt .last));
     ack = λ a. clash a (at-no-ack (at + s .plan .chunk) (areaLast (s .plan) (s .attempt .last)));
   };
-  skip = λ at f q. record { awaits = same-words q; later = refl; ack = λ a. clash {t = true} refl (sym a) };
+  skip = λ at f n q. record { awaits = same-words q; later = refl; ack = λ a. clash {t = true} refl (sym a) };
   acknowledge = λ f p q. record { awaits = same-words q; later = refl; ack = λ a. p };
-  stand = λ f q. not-sent (sym q);
-  done = λ f q. not-sent (sym q);
+  stand = λ f n q. not-sent (sym q);
+  done = λ f y q. not-sent (sym q);
 })
 
 step-gives : (s : Collection) (k : Completion) (w : Words) → stepBy s k .next ≡ Send w → Gives s (stepBy s k) w
@@ -138,11 +138,11 @@ rae-by f p last e = asks-rae f p last ∙ rw e
 create-by : (f : Phase) (p : Plan) (last : List ℕ) → laterBy f ≡ true → commandBy f p last .create ≡ false
 create-by f p last e = asks-create f p last ∙ rw (neither (firstBy f) (endedBy f) e .0)
 
-awaited-reads : (s : Collection) → Reached most4 s → endedBy (s .phase) ≡ false → readOf true (awaitedOf s) ≡ commandBy (s .phase) (s .plan) (s .attempt .last)
+pub awaited-reads : (s : Collection) → Reached most4 s → endedBy (s .phase) ≡ false → readOf true (awaitedOf s) ≡ commandBy (s .phase) (s .plan) (s .attempt .last)
 unfolding awaitedOf
 awaited-reads s r g = awaited-taken s (reached-ok s r) g .reads
 
-given-reads : (s : Collection) (k : Completion) (w : Words) → Reached most4 s → stepBy s k .next ≡ Send w
+pub given-reads : (s : Collection) (k : Completion) (w : Words) → Reached most4 s → stepBy s k .next ≡ Send w
     → readOf true w ≡ commandBy (stepBy s k .state .phase) (stepBy s k .state .plan) (stepBy s k .state .attempt .last)
 given-reads s k w r q =
     let g = step-gives s k w q in
@@ -173,10 +173,10 @@ silent s ok h e = move-cases (λ (m : Move). Silent (makes s h m)) s ok h (recor
   first = λ f r. clash {t = true} refl (sym (rw f at e));
   again = λ f l r. let q = closing-is (s .phase) f in clash e (rw (q .no-ack, q .going));
   more = λ at f y. clash {t = true} refl (sym (rw f at e));
-  skip = λ at f. clash {t = true} refl (sym (rw f at e));
+  skip = λ at f n. clash {t = true} refl (sym (rw f at e));
   acknowledge = λ f p. clash {t = true} refl (sym (rw f at e));
-  stand = λ f. record { gives = refl; stays = refl };
-  done = λ f. record { gives = refl; stays = refl };
+  stand = λ f n. record { gives = refl; stays = refl };
+  done = λ f y. record { gives = refl; stays = refl };
 })
 
 step-silent : (s : Collection) (k : Completion) → silentBy (s .phase) ≡ true → Silent (stepBy s k)
@@ -185,7 +185,7 @@ step-silent s k e =
     (λ r. rw (taken-step s (k .ok) (k .bytes) (k .copy) r) (silent s (k .ok) (lookOf s (k .bytes)) e))
     (λ r. rw (refused-step s (k .ok) (k .bytes) (k .copy) r) (record { gives = refl; stays = e }))
 
-play-silent : (s : Collection) (ks : List Completion) → silentBy (s .phase) ≡ true → play s ks ≡ []
+pub play-silent : (s : Collection) (ks : List Completion) → silentBy (s .phase) ≡ true → play s ks ≡ []
 unfolding play
 play-silent s [] e = refl
 play-silent s (k ∷ ks) e =
