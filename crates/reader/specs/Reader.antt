@@ -8,7 +8,9 @@ use lib.Dec.{leb}
 use lib.ListN.{length, take, drop}
 use Rattle.choices.specs.Choice.{pick}
 use Rattle.pages.specs.Pages.{block}
+use denote.Ref.{now}
 use Rattle.reader.specs.declared.Place.{Place}
+use Rattle.reader.specs.declared.Reader.{Reader}
 
 -- a block stands from the place on, in a copy of n bytes
 unfoldable pub moreAt : ℕ → ℕ → Bool
@@ -21,6 +23,10 @@ blockAt copy at = pick (moreAt (length copy) at) (take block (drop at copy)) []
 -- whether there is one, and the place after it: at the end the place stays
 unfoldable pub placeAt : ℕ → ℕ → Place
 placeAt n at = pick (moreAt n at) (record { more = true; at = at + block }) (record { more = false; at = at })
+
+-- the reader that has moved on to that place
+abbrev pub movedOn : Reader → Reader
+movedOn r = record { copy = r .copy; at = placeAt (length (now (r .copy))) (r .at) .at }
 
 -- where the part that is handed out lies in memory, the copy being at p: at the place, or at the copy's start at the end
 unfoldable pub partAt : ℕ × ℕ → ℕ → ℕ → ℕ × ℕ

@@ -2,11 +2,12 @@
 // on by a block, or says that it is at the end.
 //
 // It rests on choices and pages. It promises for any copy and any place which part is handed out, by its bytes and by where it lies, and
-// the next place (specs/Reader.antt). The plain step over copy and place is `block_at` and `place_at`; `next` takes a reader apart and
-// calls them, and `first` goes from a plain copy through a reader to its first block.
+// the next place (specs/Reader.antt); reading on gives the copy's whole blocks in order (specs/Blocks.antt). The plain step over copy and place is
+// `block_at` and `place_at`; `next` takes a reader apart, calls them and hands out the block with the reader moved on, and `first` goes from a
+// plain copy through a reader to its first block.
 ghost use mathlib.Core.Path.{_≡_};
 ghost use lib.ListN.{length};
-ghost use Rattle.reader.specs.Reader.{moreAt, blockAt, partAt, placeAt};
+ghost use Rattle.reader.specs.Reader.{moreAt, blockAt, partAt, placeAt, movedOn};
 
 // A place in a copy, and whether the step that led there found a block.
 pub struct Place {
@@ -53,10 +54,11 @@ pub struct Reader<'a> {
     pub at: usize,
 }
 
-// What a reader hands out: the block as that part of the copy, whether there was one, and the next place.
+// What a reader hands out: the block as that part of the copy, whether there was one, and the reader moved on.
 pub struct Handed<'a> {
     pub part: &'a [u8],
-    pub place: Place,
+    pub more: bool,
+    pub reader: Reader<'a>,
 }
 
 // A reader at the start of a copy.
@@ -73,13 +75,21 @@ pub fn part<'a>(r: Reader<'a>) -> &'a [u8]
     block_at(r.copy, r.at)
 }
 
-// The next block. The reader after it is `Reader { copy: r.copy, at: handed.place.at }`.
+// The next block, and the reader after it: at the end no block, and the reader as it was.
 pub fn next<'a>(r: Reader<'a>) -> Handed<'a>
-    ensures { λ h. ⌜ ((now (h .part) ≡ blockAt (now (r .entry .copy)) (r .entry .at)) × (h .part .ptr ≡ partAt (r .entry .copy .ptr) (length (now (r .entry .copy))) (r .entry .at))) × (h .place ≡ placeAt (length (now (r .entry .copy))) (r .entry .at)) ⌝ }
+    ensures { λ h. ⌜ ((now (h .part) ≡ blockAt (now (r .entry .copy)) (r .entry .at)) × (h .part .ptr ≡ partAt (r .entry .copy .ptr) (length (now (r .entry .copy))) (r .entry .at))) × ((h .more ≡ moreAt (length (now (r .entry .copy))) (r .entry .at)) × (h .reader ≡ movedOn (r .entry))) ⌝ }
 {
     let place = place_at(r.copy.len(), r.at);
     let part = part(r);
-    Handed { part, place }
+    let reader = Reader {
+        copy: r.copy,
+        at: place.at,
+    };
+    Handed {
+        part,
+        more: place.more,
+        reader,
+    }
 }
 
 // The first block of a copy, had through a reader. Whoever calls it needs to know nothing of readers.

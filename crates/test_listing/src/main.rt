@@ -1,5 +1,5 @@
 // The whole listing of document 01, 08h with B = 7 and c = 3 and no capture, and its row B = 0 on 07h: each command as the steps of a
-// collection give it, and the ending. The file stdout beside src/ has what the paper says.
+// collection give it, and the ending; then the finished copy's blocks through a reader. The file stdout beside src/ has what the paper says.
 use collection::Collection;
 use collection::Next;
 use collection::Stepped;
@@ -7,7 +7,11 @@ use header::Fields;
 use libc::STDOUT_FILENO;
 use pages::Caps;
 use plans::Plan;
+use reader::Reader;
 use words::Words;
+ghost use mathlib.Core.Path.{_≡_};
+ghost use lib.ListN.{length};
+ghost use Rattle.reader.specs.Reader.{moreAt, placeAt};
 
 fn say(text: &[u8]) {
     io::write_all(STDOUT_FILENO, text);
@@ -136,6 +140,61 @@ fn seven_blocks() -> [u8; 4096] {
     wanted
 }
 
+// What a reader hands out, in numbers: whether there was a block, its first byte, and the place of the reader after it.
+struct Block {
+    more: bool,
+    first: u8,
+    at: usize,
+}
+
+fn first_of(part: &[u8]) -> u8 {
+    if part.len() == 0 {
+        return 0;
+    }
+    part[0]
+}
+
+fn read(copy: &[u8], at: usize) -> Block
+    ensures { λ r. ⌜ (r .more ≡ moreAt (length (now (copy .entry))) at) × (r .at ≡ placeAt (length (now (copy .entry))) at .at) ⌝ }
+{
+    let handed = reader::next(Reader { copy, at });
+    let first = first_of(handed.part);
+    Block {
+        more: handed.more,
+        first,
+        at: handed.reader.at,
+    }
+}
+
+// The first byte of the block that a reader at a place hands out, or that it is at the end; then its place after that.
+fn shown(copy: &[u8], at: usize) -> usize {
+    let b = read(copy, at);
+    if b.more {
+        letter(b' ');
+        decimal(b.first as u64);
+    } else {
+        say(b" end");
+    }
+    b.at
+}
+
+fn four(copy: &[u8], at: usize) -> usize {
+    let a = shown(copy, at);
+    let b = shown(copy, a);
+    let c = shown(copy, b);
+    shown(copy, c)
+}
+
+// The eight blocks of a copy, as a reader hands them out, and twice the end.
+fn blocks(copy: &[u8]) {
+    say(b"blocks");
+    let half = four(copy, 0);
+    let end = four(copy, half);
+    let still = shown(copy, end);
+    shown(copy, still);
+    letter(b'\n');
+}
+
 fn begun(page: u8) -> Collection {
     say(b"cdw10 cdw11 cdw12 cdw13 cdw14\n");
     show(collection::setup(plan(page)))
@@ -162,6 +221,7 @@ fn whole() {
     let c = headed(b, 0x08, 7, &mut copy);
     headed(c, 0x08, 7, &mut copy);
     compare(&copy, &seven_blocks());
+    blocks(&copy);
 }
 
 fn empty() {

@@ -1,8 +1,9 @@
 -- `reader::next` meets its contract: a walk of its MIR, by hand. `place_at` is called on the copy's length and the place, `part` on the
--- reader, and what is handed out is made of their results. All that the proof knows of the two is that each meets its contract. A result's
--- machine value is a variable: before the struct is made of the two, each is rewritten to what its type says of it (`tells`).
+-- reader, and what is handed out is made of their results and of the reader at the next place. All that the proof knows of the two is that each
+-- meets its contract. A result's machine value is a variable: before the struct is made of the two, each is rewritten to what its type says of it
+-- (`tells`). The reader is Copy: what it owns is had three times, for `part`, for the exit, and, at the next place, within what is handed out.
 -- Assumes nothing.
-use mathlib.Core.Path.{_≡_, refl, ap, subst}
+use mathlib.Core.Path.{_≡_, refl, ap, subst, _∙_}
 use Prim.Native.Nat.{ℕ, _<_, _^_}
 use mathlib.Core.List.{List, [], _∷_}
 use lib.Dec.{T as Holds}
@@ -26,14 +27,14 @@ use types.Run.{look, init, forget, stop, fld, from, load, of-opd, and-then, no-m
 use sound.WpLaws.{FmC, fmOf, WpFn-mono}
 use denote.RattleType.{RattleType, owns}
 use denote.Laws.{Is, shows}
-use denote.Plain.{uint-makes}
-use denote.Builtin.{u8, usize}
+use denote.Plain.{uint-makes, bool-makes}
+use denote.Builtin.{u8, usize, bool}
 use denote.Ref.{RefT, NamedLft, now}
 use denote.Signature.{namedLft}
 use denote.Slice.{sliceVal, sliceTy, ShrSlice, shr-slice-tells, shr-slice-lawful}
 use denote.Steps.{only, owned, peeks, heard, nothing}
 use denote.Struct.Laws as LL
-use denote.Struct.Rest.{own-shut}
+use denote.Struct.Rest.{own-shut, own-put}
 use denote.Triple.Statement.{Contract, Triple}
 use denote.Triple.Call.{calls-at}
 use denote.Triple.Entry.{onEntry}
@@ -42,7 +43,8 @@ use denote.Triple.Table.{entered, cited}
 use denote.Triple.Walked.{says, Stays, stay-none, walkOf, goes-none, Walks, ends-at, walked, walk-meets}
 use denote.Exit.{yes}
 use denote.Triple.Clauses.{ensured, lasts}
-use Rattle.reader.specs.Reader.{blockAt, partAt, placeAt}
+use Rattle.reader.specs.Reader.{moreAt, blockAt, partAt, placeAt, movedOn}
+use Rattle.reader.specs.Laws.{place-more}
 use Rattle.reader.specs.declared.Reader.{Reader}
 use Rattle.reader.specs.declared.Place.{Place}
 use Rattle.reader.specs.declared.Handed.{Handed}
@@ -101,8 +103,12 @@ module _ {M : Type 1} (𝓤 : URA M) (H : Heap 𝓤) (A : Atoms 𝓤) (W : Given
   abbrev Found : RefT (List ℕ) → Type 0
   Found t = (now t ≡ blockAt (now (d .copy)) (d .at)) × (t .ptr ≡ partAt (d .copy .ptr) n (d .at))
 
+  -- the reader that is handed out, and what it is handed out in
+  abbrev on : Place → Reader
+  on p = record { copy = d .copy; at = p .at }
+
   abbrev made : RefT (List ℕ) → Place → Handed
-  made t p = record { part = t; place = p }
+  made t p = record { part = t; more = p .more; reader = on p }
 
   abbrev pval : Place → Val
   pval p = LL.val P.the-type P′.the-laws p
@@ -148,46 +154,67 @@ module _ {M : Type 1} (𝓤 : URA M) (H : Heap 𝓤) (A : Atoms 𝓤) (W : Given
   part-is : (t : RefT (List ℕ)) (w : Val) → Is S t (w ∷ []) → Is S t (tval t ∷ [])
   part-is t w is = subst (λ (vs : List Val). Is S t vs) (shr-slice-tells (named 0) κ u8 t (w ∷ []) is) is
 
-  made-is : (t : RefT (List ℕ)) (p : Place) → Is S t (tval t ∷ []) → Is P.the-row p (pval p ∷ []) → Is (R.the-row α) (made t p) (R′.lowered (made t p) ∷ [])
-  made-is t p it ip = LL.owes (R.the-type α) (R′.the-laws α) (made t p) (it, (ip, tt))
+  at-fits : (p : Place) → Is P.the-row p (pval p ∷ []) → p .at < 2 ^ 64
+  at-fits p ip = LL.owed P.the-type P′.the-laws p (pval p ∷ []) ip .1 .0 .1
+
+  on-is : (p : Place) → Is (B (κ, tt)) d (mach ∷ []) → Is P.the-row p (pval p ∷ []) → Is (T.the-row α) (on p) (T′.lowered (on p) ∷ [])
+  on-is p was ip = LL.owes (T.the-type α) (T′.the-laws α) (on p) (LL.owed (T.the-type α) (T′.the-laws α) d (mach ∷ []) was .0, ((refl, at-fits p ip), tt))
+
+  made-is : (t : RefT (List ℕ)) (p : Place) → Is (B (κ, tt)) d (mach ∷ []) → Is S t (tval t ∷ []) → Is P.the-row p (pval p ∷ []) → Is (R.the-row α) (made t p) (R′.lowered (made t p) ∷ [])
+  made-is t p was it ip = LL.owes (R.the-type α) (R′.the-laws α) (made t p) (it, (refl, (on-is p was ip, tt)))
+
+  -- what the place says of the answer and of the reader
+  more-is : (p : Place) → p ≡ placeAt n (d .at) → p .more ≡ moreAt n (d .at)
+  more-is p e = ap (λ (x : Place). x .more) e ∙ place-more n (d .at)
+
+  moved-is : (p : Place) → p ≡ placeAt n (d .at) → on p ≡ movedOn d
+  moved-is p e = ap on e
 
   exits : (t : RefT (List ℕ)) (p : Place) → Is P.the-row p (pval p ∷ []) → Found t → p ≡ placeAt n (d .at) →
       ent 𝓤 (⋆ 𝓤 H A (‵ (S .own t (tval t ∷ [])) ∷ (‵ (flft κ q) ⊛ ‵ ftrue) ∷ ‵ Own ∷ [])) (Post (R′.lowered (made t p)))
   exits t p ip f e =
       qed W (‵ (S .own t (tval t ∷ [])) ∷ (‵ (flft κ q) ⊛ ‵ ftrue) ∷ ‵ Own ∷ []) ∵
-      suffices ! _ (ends-at 𝓤 H A next.ended stayed (next.clauses 𝓤 H A mem run) W (((κ, tt), (q, tt), tt, (d, tt), (mach ∷ [], tt)), tt) (R′.lowered (made t p)) (made t p) (tt, tt) (tt, tt)) $ says ! (f, e) $
-      move ! (1 ∷ []) $ frame ! $ nothing ! $ move ! (2 ∷ 0 ∷ []) $ fjoin ! $ frame ! $
-      -- [what the part owns]: with the place's facts it is what the struct owns
-      nothing ! $ owned ! P.the-row (Is P.the-row) ((LL.makes P.the-type P′.the-plain) 𝓤 H A) p _ ip $ fjoin ! $ move ! (1 ∷ 0 ∷ []) $ fjoin ! $ by ! (own-shut 𝓤 H A W (R.the-type α) (R′.the-laws α) (t, (p, tt)))
+      suffices ! _ (ends-at 𝓤 H A next.ended stayed (next.clauses 𝓤 H A mem run) W (((κ, tt), (q, tt), tt, (d, tt), (mach ∷ [], tt)), tt) (R′.lowered (made t p)) (made t p) (tt, tt) (tt, tt)) $ says ! (f, (more-is p e, moved-is p e)) $
+      move ! (1 ∷ []) $ frame ! $ move ! (1 ∷ []) $ use1 W (‵ Own ⊛ ‵ Own) (LL.copy (T.the-type α) (T′.the-copy α) 𝓤 H A W .twice d (mach ∷ [])) $ split ! $
+      nothing ! $ move ! (1 ∷ 0 ∷ []) $ fjoin ! $ frame ! $
+      -- [what the reader owns; what the part owns]: the next place takes the place of the reader's, and the part, the answer and that reader are what the struct owns
+      owned ! usize (Is usize) (uint-makes 𝓤 H A W w64) (p .at) _ (refl, at-fits p ip) $ move ! (1 ∷ 0 ∷ []) $
+      use2 W (‵ (T.the-row α .own (on p) (T′.lowered (on p) ∷ []))) (own-put 𝓤 H A W (T.the-type α) (T′.the-laws α) 1 (d .copy, (d .at, tt)) (p .at) mach) $
+      nothing ! $ move ! (1 ∷ 0 ∷ []) $ fjoin ! $ owned ! bool (Is bool) (bool-makes 𝓤 H A W) (p .more) _ refl $ fjoin ! $
+      move ! (1 ∷ 0 ∷ []) $ fjoin ! $ by ! (own-shut 𝓤 H A W (R.the-type α) (R′.the-laws α) (t, (p .more, (on p, tt))))
 
   module _ (C : Calls 𝓤 H) (Λ : Loops 𝓤 H) (fm : FmC 𝓤 H (W .laws) C) (known-place : Triple 𝓤 (C #reader·place-at) (PlaceAt 𝓤 H A mem run)) (known-part : Triple 𝓤 (C #reader·part) (Part 𝓤 H A mem run)) where
     walk : Is (B (κ, tt)) d (mach ∷ []) → Holds (hasTy (T′.mir (named 0)) mach) × WT mach → ent 𝓤 (onEntry 𝓤 H A next.signature (κ, tt) (q, tt) (d, tt) (mach ∷ [], tt)) (WpFn 𝓤 H C Λ code.function (mach ∷ []) Post)
     walk was wt =
         qed W (raw (onEntry 𝓤 H A next.signature (κ, tt) (q, tt) (d, tt) (mach ∷ [], tt)) ∷ []) ∵ enter ! C Λ code.function (mach ∷ []) _ $
-        alloc1 ! (λ l₀. alloc1 ! (λ l₁. alloc1 ! (λ l₂. alloc1 ! (λ l₃. alloc1 ! (λ l₄. alloc1 ! (λ l₅. alloc1 ! (λ l₆. alloc0 ! $ params1 ! $ pass1 ! (init ! 10 refl wt) $ pass0 ! $
-        -- [room for _6; …; _5; …; _4; …; _3; …; _2; …; _1; …; _0; …; the entry]
-        assigns ! (of-opd ! (load ! (from ! (fld ! refl (fld ! refl (stop !)))) (look-in ! 10 (sub ! 1 refl (sub ! 0 refl (whole !)))))) (from ! (stop !)) (init ! 4 refl (tt, wt .1 .0 .1 .0)) $
-        assigns ! (of-opd ! (load ! (from ! (fld ! refl (stop !))) (look-in ! 10 (sub ! 1 refl (whole !))))) (from ! (stop !)) (init ! 2 refl (tt, wt .1 .1 .0)) $
+        alloc1 ! (λ l₀. alloc1 ! (λ l₁. alloc1 ! (λ l₂. alloc1 ! (λ l₃. alloc1 ! (λ l₄. alloc1 ! (λ l₅. alloc1 ! (λ l₆. alloc1 ! (λ l₇. alloc1 ! (λ l₈. alloc1 ! (λ l₉. alloc0 ! $ params1 ! $ pass1 ! (init ! 16 refl wt) $ pass0 ! $
+        -- [room for _9; …; _8; …; _7; …; _6; …; _5; …; _4; …; _3; …; _2; …; _1; …; _0; …; the entry]
+        assigns ! (of-opd ! (load ! (from ! (fld ! refl (fld ! refl (stop !)))) (look-in ! 16 (sub ! 1 refl (sub ! 0 refl (whole !)))))) (from ! (stop !)) (init ! 8 refl (tt, wt .1 .0 .1 .0)) $
+        assigns ! (of-opd ! (load ! (from ! (fld ! refl (stop !))) (look-in ! 16 (sub ! 1 refl (whole !))))) (from ! (stop !)) (init ! 6 refl (tt, wt .1 .1 .0)) $
         nothing ! $ use1 W (raw (PlaceAt 𝓤 H A mem run .pre to-place)) (goes-place (wt .1 .0 .1 .0 .fits) (wt .1 .1 .0 .fits)) $
-        calls-at ! fm (PlaceAt 𝓤 H A mem run) known-place to-place (and-then ! (load ! (from ! (stop !)) (look ! 5 refl)) (and-then ! (load ! (from ! (stop !)) (look ! 3 refl)) (no-more !))) (λ u.
+        calls-at ! fm (PlaceAt 𝓤 H A mem run) known-place to-place (and-then ! (load ! (from ! (stop !)) (look ! 9 refl)) (and-then ! (load ! (from ! (stop !)) (look ! 7 refl)) (no-more !))) (λ u.
         use1 W (later (some (λ (p : Place). (‵ ftrue ⊛ ‵ (P.the-row .own p (u ∷ []))) ⊛ raw (ensured 𝓤 H A place.ended (place.clauses 𝓤 H A mem run) tt (n, (d .at, tt)) tt p)))) (id⊢ 𝓤 _) $ await ! tt $ pick ! (λ p.
         split ! $ move ! (1 ∷ []) $ use1 W (raw (fact 𝓤 (p ≡ placeAt n (d .at)))) (place-said p) $ heard ! (p ≡ placeAt n (d .at)) (λ e. split ! $ drop ! $
         peeks ! P.the-row (Is P.the-row) (shows 𝓤 H A P.the-row) p (u ∷ []) (λ ip.
-        land ! (from ! (stop !)) (init ! 9 refl (LL.lawful P.the-type P′.the-laws 𝓤 H A W .typed p _ ip .0)) $ rewrite ! 9 (λ (z : Val). ‵ (fat fullShare P′.mir l₂ 0 z)) (ap only (LL.tells P.the-type P′.the-laws p (u ∷ []) ip)) refl $ drop ! $
-        -- [room for _6; …; _5; …; _4; …; _3; …; _2; …; _1; …; _0; …; the entry]
-        assigns ! (of-opd ! (load ! (from ! (stop !)) (look ! 10 refl))) (from ! (stop !)) (init ! 0 refl (LL.lawful (T.the-type αᵉ) (T′.the-laws αᵉ) 𝓤 H A W .typed d _ was .0)) $
-        move ! (14 ∷ []) $ use1 W (raw (Part 𝓤 H A mem run .pre to-part) ⊛ ‵ Own) goes-part $ split ! $
-        calls-at ! fm (Part 𝓤 H A mem run) known-part to-part (and-then ! (load ! (from ! (stop !)) (look ! 2 refl)) (no-more !)) (λ w.
+        land ! (from ! (stop !)) (init ! 15 refl (LL.lawful P.the-type P′.the-laws 𝓤 H A W .typed p _ ip .0)) $ rewrite ! 15 (λ (z : Val). ‵ (fat fullShare P′.mir l₂ 0 z)) (ap only (LL.tells P.the-type P′.the-laws p (u ∷ []) ip)) refl $ drop ! $
+        -- [room for _9; …; _8; …; _7; …; _6; …; _5; …; _4; …; _3; …; _2; …; _1; …; _0; …; the entry]
+        assigns ! (of-opd ! (load ! (from ! (stop !)) (look ! 16 refl))) (from ! (stop !)) (init ! 4 refl (LL.lawful (T.the-type αᵉ) (T′.the-laws αᵉ) 𝓤 H A W .typed d _ was .0)) $
+        move ! (20 ∷ []) $ use1 W (raw (Part 𝓤 H A mem run .pre to-part) ⊛ ‵ Own) goes-part $ split ! $
+        calls-at ! fm (Part 𝓤 H A mem run) known-part to-part (and-then ! (load ! (from ! (stop !)) (look ! 6 refl)) (no-more !)) (λ w.
         use1 W (later (some (λ (t : RefT (List ℕ)). ((‵ (flft κ q) ⊛ ‵ ftrue) ⊛ ‵ (S .own t (w ∷ []))) ⊛ raw (ensured 𝓤 H A part.ended (part.clauses 𝓤 H A mem run) (κ, tt) (d, tt) tt t)))) (id⊢ 𝓤 _) $ await ! tt $ pick ! (λ t.
         split ! $ move ! (1 ∷ []) $ use1 W (raw (fact 𝓤 (Found t))) (part-said t) $ heard ! (Found t) (λ f. split ! $ move ! (1 ∷ []) $
-        -- [the part; the token; what the reader owns; _6; …; _5; …; _4; …; room for _3; …; _2; …; _1; …; room for _0; …]
+        -- [the part; the token; what the reader owns; room for _9; …; _8; …; _7; …; _6; …; _5; …; _4; …; _3; …; _2; …; _1; …; _0; …]
         peeks ! S (Is S) (shows 𝓤 H A S) t (w ∷ []) (λ it.
-        land ! (from ! (stop !)) (init ! 9 refl (shr-slice-lawful 𝓤 H A W erased κ u8 .typed t _ it .0)) $ rewrite ! 9 (λ (z : Val). ‵ (fat fullShare (sliceTy (tyRef erased imm (tyInt w8))) l₃ 0 z)) (ap only (shr-slice-tells (named 0) κ u8 t (w ∷ []) it)) refl $
+        land ! (from ! (stop !)) (init ! 15 refl (shr-slice-lawful 𝓤 H A W erased κ u8 .typed t _ it .0)) $ rewrite ! 15 (λ (z : Val). ‵ (fat fullShare (sliceTy (tyRef erased imm (tyInt w8))) l₃ 0 z)) (ap only (shr-slice-tells (named 0) κ u8 t (w ∷ []) it)) refl $
         rewrite ! 0 (λ (z : Val). ‵ (S .own t (z ∷ []))) (ap only (shr-slice-tells (named 0) κ u8 t (w ∷ []) it)) refl $
-        assigns ! (agg ! (and-then ! (load ! (from ! (stop !)) (look ! 9 refl)) (and-then ! (load ! (from ! (stop !)) (look ! 11 refl)) (no-more !)))) (from ! (stop !)) (init ! 15 refl (LL.lawful (R.the-type α) (R′.the-laws α) 𝓤 H A W .typed (made t p) _ (made-is t p (part-is t w it) (place-is p u ip)) .0)) $
-        returns ! (look ! 15 refl) $ forget ! 3 refl $ forget ! 5 refl $ forget ! 7 refl $ forget ! 9 refl $ forget ! 11 refl $ forget ! 13 refl $ forget ! 15 refl $
-        move ! (15 ∷ 16 ∷ []) $ free1 ! $ move ! (13 ∷ 14 ∷ []) $ free1 ! $ move ! (11 ∷ 12 ∷ []) $ free1 ! $ move ! (9 ∷ 10 ∷ []) $ free1 ! $ move ! (7 ∷ 8 ∷ []) $ free1 ! $ move ! (5 ∷ 6 ∷ []) $ free1 ! $ move ! (3 ∷ 4 ∷ []) $ free1 ! $ free0 ! $
-        by ! (exits t p (place-is p u ip) f e))))))))))))))))
+        -- the reader moved on, in _4 and in _9
+        assigns ! (of-opd ! (load ! (from ! (fld ! refl (stop !))) (look-in ! 19 (sub ! 0 refl (whole !))))) (from ! (stop !)) (init ! 5 refl (tt, wt .1 .0)) $
+        assigns ! (agg ! (and-then ! (load ! (from ! (stop !)) (look ! 5 refl)) (and-then ! (load ! (from ! (fld ! refl (stop !))) (look-in ! 17 (sub ! 1 refl (whole !)))) (no-more !)))) (from ! (stop !)) (init ! 13 refl (LL.lawful (T.the-type αᵉ) (T′.the-laws αᵉ) 𝓤 H A W .typed (on p) _ (on-is p was (place-is p u ip)) .0)) $
+        assigns ! (of-opd ! (load ! (from ! (stop !)) (look ! 13 refl))) (from ! (stop !)) (init ! 3 refl (LL.lawful (T.the-type αᵉ) (T′.the-laws αᵉ) 𝓤 H A W .typed (on p) _ (on-is p was (place-is p u ip)) .0)) $
+        assigns ! (agg ! (and-then ! (load ! (from ! (stop !)) (look ! 15 refl)) (and-then ! (load ! (from ! (fld ! refl (stop !))) (look-in ! 17 (sub ! 0 refl (whole !)))) (and-then ! (load ! (from ! (stop !)) (look ! 3 refl)) (no-more !))))) (from ! (stop !)) (init ! 21 refl (LL.lawful (R.the-type α) (R′.the-laws α) 𝓤 H A W .typed (made t p) _ (made-is t p was (part-is t w it) (place-is p u ip)) .0)) $
+        returns ! (look ! 21 refl) $ forget ! 3 refl $ forget ! 5 refl $ forget ! 7 refl $ forget ! 9 refl $ forget ! 11 refl $ forget ! 13 refl $ forget ! 15 refl $ forget ! 17 refl $ forget ! 19 refl $ forget ! 21 refl $
+        move ! (21 ∷ 22 ∷ []) $ free1 ! $ move ! (19 ∷ 20 ∷ []) $ free1 ! $ move ! (17 ∷ 18 ∷ []) $ free1 ! $ move ! (15 ∷ 16 ∷ []) $ free1 ! $ move ! (13 ∷ 14 ∷ []) $ free1 ! $ move ! (11 ∷ 12 ∷ []) $ free1 ! $ move ! (9 ∷ 10 ∷ []) $ free1 ! $ move ! (7 ∷ 8 ∷ []) $ free1 ! $ move ! (5 ∷ 6 ∷ []) $ free1 ! $ move ! (3 ∷ 4 ∷ []) $ free1 ! $ free0 ! $
+        by ! (exits t p (place-is p u ip) f e)))))))))))))))))))
 
 module _ {M : Type 1} (𝓤 : URA M) (H : Heap 𝓤) (A : Atoms 𝓤) (W : Given 𝓤 H A) (mem : Memory → SProp 𝓤) (run : Routine → Fun 𝓤) where
   next-walks : (C : Calls 𝓤 H) (Λ : Loops 𝓤 H) → FmC 𝓤 H (W .laws) C → Triple 𝓤 (C #reader·place-at) (PlaceAt 𝓤 H A mem run) → Triple 𝓤 (C #reader·part) (Part 𝓤 H A mem run)
