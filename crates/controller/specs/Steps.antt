@@ -134,6 +134,13 @@ made-fits w candidate c buf g host =
     (λ t. rw (captured w candidate c t, host t) (captured-fits w candidate (c .mcda) (g .candidate t)))
     (λ t. rw (no-capture w candidate c t) (agreed-fits w (g .agrees) (c .page) (g .served)))
 
+-- the branches of an acknowledgement
+pub clears : (r : Record) (c : Command) {x : Record} → acknowledges c ≡ true → x ≡ clearedOf r → x ≡ pick (acknowledges c) (clearedOf r) r
+clears r c t e = rw t e
+
+pub keeps : (r : Record) (c : Command) → acknowledges c ≡ false → r ≡ pick (acknowledges c) (clearedOf r) r
+keeps r c t = rw t
+
 -- judged, made, sent and acknowledged: what a success leaves
 pub served-is : (w : World) (candidate : Candidate) (c : Command) (buf : List ℕ) (x : ℕ) (y : Answered) {next after : Record} {h b : List ℕ}
     → x ≡ success → Accepted (w .own) c (candidate .last) (lentBy w candidate buf) → (c .create ≡ true → c .page ≡ hostPage)
