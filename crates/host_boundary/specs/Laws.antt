@@ -36,7 +36,7 @@ act-kind s h Skip e = omega arith
 act-kind s h Acknowledge e = omega arith
 
 module _ (s : List ℕ) (ok : Bool) (d copy : List ℕ) where
-  refused-unread : kindOf (stepOf (stateAt s) ok d (length copy) .next) ≡ refusal
+  pub refused-unread : kindOf (stepOf (stateAt s) ok d (length copy) .next) ≡ refusal
       → refusalOf (stateAt s) ok (length d) (length copy) ≡ success → ⊥
   refused-unread e q =
       act-kind (stateAt s) (lookOf (stateAt s) d) (moveOf (stateAt s) ok (lookOf (stateAt s) d))

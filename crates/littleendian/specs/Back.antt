@@ -70,7 +70,7 @@ halves y =
     both (low4 y) (ap (λ (z : ℕ). bytesOf 4 z) e)
 
 -- every element is a byte
-pub Bytes : List ℕ → Type 0
+unfoldable pub Bytes : List ℕ → Type 0
 Bytes b = (i : ℕ) → getD b i 0 < 256
 
 byte-low : (x m : ℕ) → x < 256 → (x + 256 * m) % 256 ≡ x
@@ -87,6 +87,13 @@ bytes-kept (suc zero) i b t = ap (λ (x : ℕ). x ∷ []) (mod-eq-of-lt (t i))
 bytes-kept (suc (suc n)) i b t =
     rw (byte-low (getD b i 0) (valueAt (suc n) (suc i) b) (t i), byte-high (getD b i 0) (valueAt (suc n) (suc i) b) (t i))
     (ap (λ (r : List ℕ). getD b i 0 ∷ r) (bytes-kept (suc n) (suc i) b t))
+
+-- and n of them say a number that fits in n bytes
+pub value-small : (n i : ℕ) (b : List ℕ) → Bytes b → valueAt n i b < 256 ^ n
+unfolding Bytes
+value-small zero i b t = omega arith
+value-small (suc zero) i b t = let p = t i in omega arith
+value-small (suc (suc n)) i b t = let p = t i in let q = value-small (suc n) (suc i) b t in omega arith
 
 -- ---- four numbers of four bytes
 
@@ -105,3 +112,16 @@ fours-back a f =
 
 pub fours-kept : (i : ℕ) (b : List ℕ) → Bytes b → foursOf (foursAt i b) ≡ run 4 i b ++ run 4 (i + 4) b ++ run 4 (i + 8) b ++ run 4 (i + 12) b
 fours-kept i b t = join (bytes-kept 4 i b t) (bytes-kept 4 (i + 4) b t) (bytes-kept 4 (i + 8) b t) (bytes-kept 4 (i + 12) b t)
+
+pub four-of : (a b c d : ℕ) → a < 256 ^ 4 → b < 256 ^ 4 → c < 256 ^ 4 → d < 256 ^ 4 → Four (a ∷ b ∷ c ∷ d ∷ [])
+four-of a b c d p q r s = record { four = refl; each = at }
+  where
+    at : (i : ℕ) → getD (a ∷ b ∷ c ∷ d ∷ []) i 0 < 256 ^ 4
+    at zero = p
+    at (suc zero) = q
+    at (suc (suc zero)) = r
+    at (suc (suc (suc zero))) = s
+    at (suc (suc (suc (suc i)))) = omega arith
+
+pub fours-small : (i : ℕ) (b : List ℕ) → Bytes b → Four (foursAt i b)
+fours-small i b t = four-of _ _ _ _ (value-small 4 i b t) (value-small 4 (i + 4) b t) (value-small 4 (i + 8) b t) (value-small 4 (i + 12) b t)
