@@ -1,2 +1,9 @@
 pub mod State
 pub mod Record
+pub mod Calls
+pub mod Next
+pub mod Same
+pub mod First
+pub mod Area
+pub mod CDemand3
+pub mod Example

@@ -22,7 +22,7 @@ use Rattle.records.specs.Records.{identityOk, freshOf}
 use Rattle.records.specs.Back.{Typed, fresh-typed}
 use Rattle.verdicts.specs.Verdicts.{captureAnswer}
 use Rattle.verdicts.specs.Accepted.{captures}
-use Rattle.controller.specs.Controller.{World, world, Candidate, Outcome, hostCaptured, controllerCaptured, lentBy, commandOf, captureAnswered, captureOf}
+use Rattle.controller.specs.Controller.{World, world, Candidate, Outcome, lentBy, commandOf, captureAnswered, captureOf}
 use Rattle.controller.specs.Laws.{asked, command-frame, create-typed, clear-typed, capture-typed, refusal-changes-nothing, capture-refusal-changes-nothing}
 use Rattle.shared_layouts.specs.Layouts.{mostCaps, capsByte, capsOf}
 use Rattle.shared_layouts.specs.Back.{caps-most}
@@ -51,31 +51,23 @@ record-typed b l t = record {
   };
 }
 
--- ---- a command and a capture keep what the types say of a record, and its capabilities
+-- ---- a command and a capture keep what the types say of a record
 
 module _ (w : World) (candidate : Candidate) where
-  pub command-typed : (words : Words) (buf : List ℕ) → Typed (w .own) → Typed (commandOf w candidate words buf .world .own)
-  command-typed words buf t =
+  -- whatever a command is lent, the record that it gives is all that its types say
+  pub command-keeps-typed : (words : Words) (buf : List ℕ) → Typed (w .own) → Typed (commandOf w candidate words buf .world .own)
+  command-keeps-typed words buf t =
       command-frame (λ (v : World). Typed (v .own)) w candidate words buf t
       (λ a c. create-typed w candidate (asked w words .mcda) (a .agrees) t (a .candidate c))
       (λ a p r. clear-typed w (a .agrees) t)
 
+  -- and so with a capture
   pub capture-keeps-typed : Typed (w .own) → Typed (captureOf w candidate .world .own)
   unfolding captureOf captureAnswered
   capture-keeps-typed t =
       pick-cases (λ (o : Outcome). Typed (o .world .own)) (eqb (captureAnswer (w .own) (candidate .last) (lentBy w candidate [])) success)
       (λ e. let c = captures (w .own) (candidate .last) (lentBy w candidate []) (eqb-true _ _ e) in capture-typed w candidate (c .agrees) t c)
       (λ e. t)
-
-  pub command-caps : (words : Words) (buf : List ℕ) → commandOf w candidate words buf .world .own .caps ≡ w .own .caps
-  unfolding hostCaptured
-  command-caps words buf = command-frame (λ (v : World). v .own .caps ≡ w .own .caps) w candidate words buf refl (λ a c. refl) (λ a p r. refl)
-
-  pub capture-caps : captureOf w candidate .world .own .caps ≡ w .own .caps
-  unfolding captureOf captureAnswered controllerCaptured
-  capture-caps =
-      pick-cases (λ (o : Outcome). o .world .own .caps ≡ w .own .caps) (eqb (captureAnswer (w .own) (candidate .last) (lentBy w candidate [])) success)
-      (λ e. refl) (λ e. refl)
 
 -- ---- call after call
 
@@ -102,7 +94,7 @@ module _ (r h k : List ℕ) (candidate : Candidate) (t : Typed (recordAt r)) whe
       → recordAt (commandAt r h k candidate words buf .own) ≡ commandOf w candidate words buf .world .own
   unfolding commandAt
   command-chained words buf p =
-      rw p (after-is (commandOf w candidate words buf) (command-typed w candidate words buf t)
+      rw p (after-is (commandOf w candidate words buf) (command-keeps-typed w candidate words buf t)
       (λ n. sym (ap (λ (x : World). x .own) (refusal-changes-nothing w candidate words buf n .0))))
 
   -- And so with a capture.

@@ -173,11 +173,12 @@ chained s ok d copy t p =
     (λ e. rw e (ap (λ (y : Stepped). y .state) (sym (refused-step (stateAt s) ok d (length copy) (refused-unread s ok d copy (eqb-true _ _ e))))))
     (λ e. rw e (state-back (x .state) (step-typed (stateAt s) ok d (length copy) t))))
 
--- and the copy and what follows are those that it gave
+-- and the copy is the one that it gave
 pub step-copy : (s : List ℕ) (ok : Bool) (d copy : List ℕ) → stateIntact s ≡ true → stepAt s ok d copy .copy ≡ copyAfter (stateAt s) ok d copy
 unfolding stepAt
 step-copy s ok d copy p = rw p
 
+-- and so are the bytes of what follows
 pub step-follows : (s : List ℕ) (ok : Bool) (d copy : List ℕ) → stateIntact s ≡ true
     → stepAt s ok d copy .follows ≡ nextBytes (stepOf (stateAt s) ok d (length copy) .next)
 unfolding stepAt

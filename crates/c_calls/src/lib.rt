@@ -1,4 +1,7 @@
-// The C boundary, call after call: the state and the record that a call's bytes say are those that the call's definition gave.
+// The C boundary, call after call: `bumbazeel_setup`, `bumbazeel_command`, `bumbazeel_capture` and `bumbazeel_step`, each lent the bytes that the last call
+// left, are a run, and demand 3 holds of it.
 //
-// It rests on both sides of the C boundary, whose definitions the contracts of `bumbazeel_setup`, `bumbazeel_step`, `bumbazeel_fresh`,
-// `bumbazeel_command` and `bumbazeel_capture` cite: specs/State.antt is the host's part, specs/Record.antt the controller's. It has no code of its own.
+// It rests on both sides of the C boundary, whose definitions the contracts of those functions cite, and on demand3, whose theorem it uses.
+// specs/Calls.antt is a C program's loop, and specs/CDemand3.antt what such a program may rest on, both said of bytes; specs/Same.antt shows that the loop
+// is demand 3's run, since the state and the record that a call's bytes say are those that the call's definition gave (specs/State.antt,
+// specs/Record.antt). It has no code of its own.
