@@ -6,6 +6,7 @@ use mathlib.Core.List.{List, _++_}
 use native.Mathlib.Omega.{arith}
 use lib.ListN.{length, getD}
 use lib.Dec.{ltb, eqb}
+use Rattle.choices.specs.Choice.{one}
 use Rattle.copies.specs.Parts.{zeros}
 use Rattle.littleendian.specs.Numbers.{valueAt}
 use Rattle.littleendian.specs.Back.{Bytes}
@@ -25,7 +26,7 @@ use Rattle.sources.specs.Source.{ours, Turn, Stand, Counters}
 use Rattle.sources.specs.Promise.{mostCommands, Finished}
 use Rattle.demand3.specs.Bench.{Loan, controllerSource}
 use Rattle.demand3.specs.Demand3.{final, TrueEnding, succeeded-by, room-short, gone, never-there, Demand3, demand3}
-use Rattle.shared_layouts.specs.Layouts.{one, capsOf}
+use Rattle.shared_layouts.specs.Layouts.{capsOf}
 use Rattle.state_layout.specs.Layout.{stateAt}
 use Rattle.record_layout.specs.Layout.{recordAt}
 use Rattle.next_layout.specs.Layout.{send, ending, refusal, kindOf, nextBytes}

@@ -7,7 +7,7 @@ use mathlib.Core.List.{List, [], _∷_}
 use mathlib.Core.Bool.{Bool, true, _&&_, _||_}
 use lib.ListN.{take, getD}
 use lib.Dec.{eqb}
-use Rattle.choices.specs.Choice.{pick}
+use Rattle.choices.specs.Choice.{pick, one}
 use Rattle.littleendian.specs.Numbers.{valueAt}
 use Rattle.answers.specs.Answers.{success}
 use Rattle.pages.specs.Pages.{hostPage, controllerPage, block, perPage}
@@ -17,7 +17,7 @@ use Rattle.plans.specs.declared.Plan.{Plan}
 use Rattle.collection.specs.Collection.{setupOf}
 use Rattle.controller.specs.Controller.{Candidate}
 use Rattle.sources.specs.Source.{Turn, Counters, captured, heard, forLent}
-use Rattle.demand3.specs.Bench.{Event, Sent, Taken, Loan, one, controllerSource}
+use Rattle.demand3.specs.Bench.{Event, Sent, Taken, Loan, controllerSource}
 use Rattle.state_layout.specs.Layout.{stateBytes}
 use Rattle.next_layout.specs.Layout.{send, nextBytes}
 use Rattle.host_boundary.specs.Boundary.{StepAnswer, stepAt}

@@ -7,7 +7,7 @@ use mathlib.Core.List.{List, [], _∷_}
 use mathlib.Core.Bool.{true, false}
 use native.Mathlib.Omega.{arith}
 use lib.Dec.{eqb}
-use Rattle.choices.specs.Choice.{pick-cases}
+use Rattle.choices.specs.Choice.{pick-cases, one}
 use Rattle.choices.specs.Tests.{by-test, same-or-not}
 use Rattle.answers.specs.Answers.{success, disagree}
 use Rattle.words.specs.declared.Words.{Words}
@@ -21,7 +21,7 @@ use Rattle.verdicts.specs.Accepted.{unless-disagree}
 use Rattle.controller.specs.Controller.{Candidate, lentBy}
 use Rattle.controller.specs.Laws.{asked, command-answer}
 use Rattle.sources.specs.Source.{Turn, forLent}
-use Rattle.demand3.specs.Bench.{Event, Loan, one, controllerSource}
+use Rattle.demand3.specs.Bench.{Event, Loan, controllerSource}
 use Rattle.demand3.specs.Own.{not-four}
 use Rattle.record_layout.specs.Layout.{recordAt, recordIntact}
 use Rattle.next_layout.specs.Layout.{send, refusal, kindOf, nextBytes}

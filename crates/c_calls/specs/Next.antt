@@ -7,7 +7,7 @@ use mathlib.Core.List.{List}
 use mathlib.Core.Bool.{Bool}
 use native.Mathlib.Omega.{arith}
 use lib.ListN.{length, getD}
-use Rattle.choices.specs.Choice.{pick, pick-cases}
+use Rattle.choices.specs.Choice.{pick, pick-cases, one}
 use Rattle.choices.specs.Tests.{same-or-not, each}
 use Rattle.littleendian.specs.Numbers.{valueAt}
 use Rattle.littleendian.specs.Back.{value-back}
@@ -30,7 +30,6 @@ use Rattle.collection.specs.declared.Next.the-variants.{Send, End as Ends, Refu
 use Rattle.collection.specs.declared.Stepped.{Stepped}
 use Rattle.collection.specs.Collection.{awaitedOf, refusalOf, lookOf, moveOf, setupOf, stepOf}
 use Rattle.collection.specs.Steps.{makes, refused-step, taken-step, setup-taken, setup-refused}
-use Rattle.shared_layouts.specs.Layouts.{one}
 use Rattle.next_layout.specs.Layout.{ending, kindOf, nextParts, nextBytes}
 use Rattle.c_calls.specs.Calls.{kindIn, wordsIn}
 

@@ -8,7 +8,7 @@ use native.Mathlib.Omega.{arith}
 use lib.ListN.{length, length-append, take, getD}
 use lib.Dec.{eqb}
 use borrow.Author.Tests.{ne-eqb}
-use Rattle.choices.specs.Choice.{pick, pick-cases}
+use Rattle.choices.specs.Choice.{pick, pick-cases, one}
 use Rattle.choices.specs.Tests.{each, and-left}
 use Rattle.answers.specs.Answers.{success}
 use Rattle.pages.specs.Pages.{hostPage, controllerPage}
@@ -32,7 +32,7 @@ use Rattle.controller.specs.Laws.{asked, command-frame}
 use Rattle.runs.specs.Run.{given}
 use Rattle.runs.specs.Counted.{step-counts}
 use Rattle.sources.specs.Source.{Source, ours, Done, Turn, Stand, Counters, captured, heard, forLent, fine, dataOf, happens as runHappens, happen as runHappen, hears, turnBy, run, begun, collected}
-use Rattle.demand3.specs.Bench.{Event, Sent, Taken, Loan, actOf, one, capturesOf, ownOf, controllerSource}
+use Rattle.demand3.specs.Bench.{Event, Sent, Taken, Loan, actOf, capturesOf, ownOf, controllerSource}
 use Rattle.demand3.specs.Shown.{Good}
 use Rattle.demand3.specs.Events.{act-good}
 use Rattle.demand3.specs.Demand3.{final}

@@ -13,6 +13,10 @@ abbrev pub pick : {A : Type 0} → Bool → A → A → A
 pick true a b = a
 pick false a b = b
 
+-- a yes or no as a number: one where the test holds, else none
+abbrev pub one : Bool → ℕ
+one t = pick t 1 0
+
 -- the first of the row whose test holds, or what stands after the row: an order of refusals reads as its list
 abbrev pub firstThat : {A : Type 0} → List (Bool × A) → A → A
 firstThat [] last = last

@@ -2,10 +2,10 @@
 -- Assumes nothing.
 use Prim.Native.Nat.{ℕ}
 use mathlib.Core.List.{List}
-use mathlib.Core.Bool.{Bool, _&&_}
+use mathlib.Core.Bool.{_&&_}
 use lib.ListN.{take}
 use lib.Dec.{eqb}
-use Rattle.choices.specs.Choice.{pick}
+use Rattle.choices.specs.Choice.{one}
 use Rattle.answers.specs.Answers.{success}
 use Rattle.pages.specs.Pages.{hostPage, controllerPage}
 use Rattle.words.specs.declared.Words.{Words}
@@ -26,10 +26,6 @@ pub record Loan : Type 0 where
 unfoldable pub actOf : Event → World → World
 actOf (Sent words candidate buf) w = commandOf w candidate words buf .world
 actOf (Taken candidate) w = captureOf w candidate .world
-
--- one where the test holds
-abbrev pub one : Bool → ℕ
-one t = pick t 1 0
 
 -- a capture of 07h is a create that succeeds, and one of 08h a capture that does
 unfoldable pub capturesOf : ℕ → Event → World → ℕ

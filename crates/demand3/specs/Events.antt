@@ -9,7 +9,7 @@ use native.Mathlib.Omega.{arith}
 use lib.ListN.{take}
 use lib.Dec.{eqb}
 use borrow.Author.Tests.{eqb-true, ne-eqb}
-use Rattle.choices.specs.Choice.{pick-cases}
+use Rattle.choices.specs.Choice.{pick-cases, one}
 use Rattle.choices.specs.Tests.{by-test, clash, and-left, same-or-not}
 use Rattle.answers.specs.Answers.{success}
 use Rattle.pages.specs.declared.Caps.{Caps}
@@ -25,7 +25,7 @@ use Rattle.completions.specs.Completions.{showsNone}
 use Rattle.controller.specs.Controller.{World, world, Candidate, Outcome, storeFor, hostCaptured, controllerCaptured, acknowledges, cleared, before, afterwards, captureOf, captureAnswered, lentBy}
 use Rattle.controller.specs.Steps.{create-host, host-stays, captured, no-capture}
 use Rattle.controller.specs.Laws.{asked, verdict, command-done, command-refused, command-agrees, command-typed, captured-agrees, captured-typed}
-use Rattle.demand3.specs.Bench.{Event, Sent, Taken, actOf, one, capturesOf}
+use Rattle.demand3.specs.Bench.{Event, Sent, Taken, actOf, capturesOf}
 use Rattle.demand3.specs.Shown.{generationFor, showsFor, wantedArea, Good, plan-page, area-stored}
 
 -- ---- by cases, each with the number of captures it makes on a page

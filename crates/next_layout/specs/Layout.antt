@@ -2,13 +2,13 @@
 -- Assumes nothing.
 use Prim.Native.Nat.{ℕ}
 use mathlib.Core.List.{List, [], _∷_, _++_}
+use Rattle.choices.specs.Choice.{one}
 use Rattle.littleendian.specs.Numbers.{bytesOf}
 use Rattle.words.specs.declared.Words.{Words}
 use Rattle.words.specs.Words.{noWords}
 use Rattle.judgement.specs.Endings.{numberOf, newerOf}
 use Rattle.collection.specs.declared.Next.{Next}
 use Rattle.collection.specs.declared.Next.the-variants.{Send, End as Ends, Refuse}
-use Rattle.shared_layouts.specs.Layouts.{one}
 
 -- the kinds: a command to send, an ending, a refusal
 abbrev pub send : ℕ

@@ -1,6 +1,6 @@
 // What follows a setup or a step as the bytes of struct bumbazeel_next.
 //
-// It rests on littleendian, words, judgement, collection and shared_layouts. It promises that it is written to exactly the bytes of
+// It rests on choices, copies, littleendian, words, judgement, collection and shared_layouts. It promises that it is written to exactly the bytes of
 // specs/Layout.antt.
 use collection::Next;
 use words::Words;

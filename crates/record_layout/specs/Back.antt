@@ -8,13 +8,13 @@ use native.Mathlib.Omega.{arith}
 use lib.ListN.{length, getD, take, drop, length-append, length-drop, take-append-drop}
 use lib.Seq.{take-all, drop-drop, take-at, drop-at}
 use borrow.Author.Tests.{le-leb, eqb-true}
+use Rattle.choices.specs.Choice.{one}
 use Rattle.choices.specs.Tests.{holds, each}
 use Rattle.littleendian.specs.Numbers.{reasonAt}
 use Rattle.littleendian.specs.Back.{value-back, run-is, join, Bytes, bytes-kept, fours-back, fours-kept, eight}
 use Rattle.pages.specs.declared.Caps.{Caps}
 use Rattle.records.specs.declared.Record.{Record}
 use Rattle.records.specs.Back.{Typed}
-use Rattle.shared_layouts.specs.Layouts.{one}
 use Rattle.shared_layouts.specs.Back.{one-most, one-back, one-kept, caps-most, caps-back, caps-kept}
 use Rattle.record_layout.specs.Layout.{recordMarks, recordFront, recordBytes, recordAt, recordIntact}
 

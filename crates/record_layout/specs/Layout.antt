@@ -5,12 +5,13 @@ use mathlib.Core.List.{List, [], _∷_, _++_}
 use mathlib.Core.Bool.{Bool}
 use lib.ListN.{getD}
 use lib.Dec.{leb, eqb}
+use Rattle.choices.specs.Choice.{one}
 use Rattle.choices.specs.Tests.{holds}
 use Rattle.littleendian.specs.Numbers.{bytesOf, valueAt, foursOf, foursAt, reasonAt}
 use Rattle.records.specs.declared.HostPage.{HostPage}
 use Rattle.records.specs.declared.ControllerPage.{ControllerPage}
 use Rattle.records.specs.declared.Record.{Record}
-use Rattle.shared_layouts.specs.Layouts.{one, mostCaps, capsByte, capsOf}
+use Rattle.shared_layouts.specs.Layouts.{mostCaps, capsByte, capsOf}
 
 -- its first eight bytes
 abbrev pub recordMarks : Record → List ℕ

@@ -8,6 +8,7 @@ use native.Mathlib.Omega.{arith}
 use lib.ListN.{length, getD, drop, length-append, length-drop}
 use lib.Dec.{eqb}
 use lib.Seq.{take-at}
+use Rattle.choices.specs.Choice.{one}
 use Rattle.copies.specs.Parts.{zeros, putAt, put-end, put-next}
 use Rattle.littleendian.specs.Numbers.{bytesOf, valueAt, foursOf, foursAt, reasonAt}
 use Rattle.littleendian.specs.Puts.{then}
@@ -15,7 +16,7 @@ use Rattle.pages.specs.declared.Caps.{Caps}
 use Rattle.records.specs.declared.HostPage.{HostPage}
 use Rattle.records.specs.declared.ControllerPage.{ControllerPage}
 use Rattle.records.specs.declared.Record.{Record}
-use Rattle.shared_layouts.specs.Layouts.{one, capsByte, capsOf}
+use Rattle.shared_layouts.specs.Layouts.{capsByte, capsOf}
 use Rattle.record_layout.specs.Layout.{recordMarks, recordFront, recordBytes, hostAt, controllerAt, recordAt}
 
 -- ---- writing

@@ -10,14 +10,14 @@ use native.Mathlib.Nat.{mod-eq-of-lt, div-div-eq-div-mul}
 use lib.ListN.{length}
 use lib.Dec.{leb, eqb}
 use borrow.Author.Tests.{le-leb, leb-true, eqb-true, eqb-false}
-use Rattle.choices.specs.Choice.{pick}
+use Rattle.choices.specs.Choice.{pick, one}
 use Rattle.choices.specs.Tests.{by-test}
 use Rattle.copies.specs.Parts.{zeros, putAt, put-end}
 use Rattle.littleendian.specs.Numbers.{bytesOf, foursOf}
 use Rattle.littleendian.specs.Puts.{then}
 use Rattle.pages.specs.declared.Caps.{Caps}
 use Rattle.header.specs.declared.Fields.{Fields}
-use Rattle.shared_layouts.specs.Layouts.{one, mostCaps, capsByte, capBit, capsOf, fieldsFront, fieldsBytes}
+use Rattle.shared_layouts.specs.Layouts.{mostCaps, capsByte, capBit, capsOf, fieldsFront, fieldsBytes}
 
 pub one-most : (t : Bool) → one t ≤ 1
 one-most true = omega arith

@@ -12,10 +12,6 @@ use Rattle.header.specs.declared.Fields.{Fields}
 
 -- ---- yes or no, and capabilities
 
--- a yes or no as a number
-abbrev pub one : Bool → ℕ
-one t = pick t 1 0
-
 -- the greatest byte of five bits
 abbrev pub mostCaps : ℕ
 mostCaps = 31

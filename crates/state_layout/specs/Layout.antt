@@ -5,14 +5,14 @@ use mathlib.Core.List.{List, [], _∷_, _++_}
 use mathlib.Core.Bool.{Bool, true, false, _||_}
 use lib.ListN.{getD}
 use lib.Dec.{leb, eqb}
-use Rattle.choices.specs.Choice.{pick}
+use Rattle.choices.specs.Choice.{pick, one}
 use Rattle.choices.specs.Tests.{holds}
 use Rattle.littleendian.specs.Numbers.{bytesOf, valueAt, foursOf, foursAt}
 use Rattle.plans.specs.declared.Plan.{Plan}
 use Rattle.plans.specs.declared.Phase.{Phase}
 use Rattle.plans.specs.declared.Phase.the-variants.{First, Chunk, Close, Ack, Ended}
 use Rattle.collection.specs.declared.Collection.{Collection}
-use Rattle.shared_layouts.specs.Layouts.{one, mostCaps, capsByte, capsOf}
+use Rattle.shared_layouts.specs.Layouts.{mostCaps, capsByte, capsOf}
 
 -- the number of a phase
 abbrev pub phaseByte : Phase → ℕ
