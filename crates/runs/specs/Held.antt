@@ -196,13 +196,18 @@ pub record Going (first : List ℕ) (h : Held) : Type 0 where
   pub none : h .endings ≡ []
   pub copy : h .copy ≡ laid first (h .attempts)
 
+-- either of the two, by the state, with the attempt's data as long as they should be
+record Kept (p : Plan) (first : List ℕ) (h : Held) : Type 0 where
+  sized : Sized (h .state .phase) p (h .state .attempt .last) (length (newest (h .attempts)))
+  going : endedBy (h .state .phase) ≡ false → Going first h
+  over : endedBy (h .state .phase) ≡ true → Over p h
+
+-- the invariant
 record Holds (p : Plan) (first : List ℕ) (h : Held) : Type 0 where
   reached : Reached most4 (h .state)
   plan : h .state .plan ≡ p
   room : length (h .copy) ≡ p .room
-  sized : Sized (h .state .phase) p (h .state .attempt .last) (length (newest (h .attempts)))
-  going : endedBy (h .state .phase) ≡ false → Going first h
-  over : endedBy (h .state .phase) ≡ true → Over p h
+  kept : Kept p first h
 
 -- the attempt's data where the chunk at a block is awaited next, or the closing header
 sized-at : (p : Plan) (last : List ℕ) (at n : ℕ) → (at ≤ areaLast p last → n ≡ block * (at - 1)) → (areaLast p last < at → n ≡ areaBytes p last)
@@ -232,12 +237,6 @@ heldMade h k w m = record {
   attempts = attemptsBy (h .state .phase) k (makes (h .state) w m) (h .attempts);
   endings = h .endings ++ ended (makes (h .state) w m .next);
 }
-
--- what has not ended goes on, or ends; what is left is said by the move
-record Kept (p : Plan) (first : List ℕ) (h : Held) : Type 0 where
-  sized : Sized (h .state .phase) p (h .state .attempt .last) (length (newest (h .attempts)))
-  going : endedBy (h .state .phase) ≡ false → Going first h
-  over : endedBy (h .state .phase) ≡ true → Over p h
 
 module _ (p : Plan) (first : List ℕ) (h : Held) (k : Reply) (w : Seen) (i : Holds p first h) (g : Going first h)
     (r : refusalOf (h .state) (k .ok) (length (k .bytes)) (length (h .copy)) ≡ success) where
@@ -305,7 +304,7 @@ module _ (p : Plan) (first : List ℕ) (h : Held) (k : Reply) (w : Seen) (i : Ho
   unfolding makes touches touched expectedOf
   more at f y =
       let c = chunk-copy (h .state) at (k .bytes) (h .copy) f (rw y at r) .0 in
-      let z : length (newest (h .attempts)) ≡ block * (at - 1) = rw f at (i .sized) in
+      let z : length (newest (h .attempts)) ≡ block * (at - 1) = rw f at (i .kept .sized) in
       let b = not-refused (h .state) (k .ok) (length (k .bytes)) (length (h .copy)) r .bytes-fit in
       let d : length (k .bytes) ≡ block * chunkBlocks (p .chunk) at (areaLast p (h .state .attempt .last)) = rw (y, f, i .plan) at b in
       let n = chunk-inside at (areaLast p (h .state .attempt .last)) (rw (f, i .plan) at (i .reached .inside)) in
@@ -330,7 +329,7 @@ module _ (p : Plan) (first : List ℕ) (h : Held) (k : Reply) (w : Seen) (i : Ho
 
   acknowledge : h .state .phase ≡ Close false → Kept p first (heldMade h k w Acknowledge)
   unfolding makes touches touched
-  acknowledge f = goes Acknowledge refl refl (rw f (g .copy)) (rw f (rw f at (i .sized)))
+  acknowledge f = goes Acknowledge refl refl (rw f (g .copy)) (rw f (rw f at (i .kept .sized)))
 
   keeps : Kept p first (heldMade h k w (moveOf (h .state) (k .ok) w))
   unfolding makes
@@ -342,8 +341,8 @@ module _ (p : Plan) (first : List ℕ) (h : Held) (k : Reply) (w : Seen) (i : Ho
     more = λ at f y. more at f y;
     skip = λ at f n. skip at f n;
     acknowledge = λ f e. acknowledge f;
-    stand = λ f n. stands (Success false) refl (rw f) (rw f at (i .sized));
-    done = λ f y. stands (Success (newerThan (h .state .attempt) w)) refl (rw f) (rw f at (i .sized));
+    stand = λ f n. stands (Success false) refl (rw f) (rw f at (i .kept .sized));
+    done = λ f y. stands (Success (newerThan (h .state .attempt) w)) refl (rw f) (rw f at (i .kept .sized));
   })
 
 -- a refusal changes nothing
@@ -367,15 +366,12 @@ holds-on : (p : Plan) (first : List ℕ) (h : Held) (k : Reply) → Holds p firs
 holds-on p first h k i =
     same-or-not (refusalOf (h .state) (k .ok) (length (k .bytes)) (length (h .copy))) success
     (λ r.
-    let g = i .going (not-refused (h .state) (k .ok) (length (k .bytes)) (length (h .copy)) r .going) in
-    let x : Kept p first (heldOn h k) = rw (taken-held h k r) (keeps p first h k (lookOf (h .state) (k .bytes)) i g r) in
+    let g = i .kept .going (not-refused (h .state) (k .ok) (length (k .bytes)) (length (h .copy)) r .going) in
     record {
       reached = step-house (h .state) (lent (length (h .copy)) k) (i .reached);
       plan = step-counts (h .state) (k .ok) (k .bytes) (length (h .copy)) .plan ∙ i .plan;
       room = copy-length (h .state) (k .ok) (k .bytes) (h .copy) ∙ i .room;
-      sized = x .sized;
-      going = x .going;
-      over = x .over;
+      kept = rw (taken-held h k r) (keeps p first h k (lookOf (h .state) (k .bytes)) i g r);
     })
     (λ r. rw (refused-held h k r) i)
 
@@ -391,9 +387,11 @@ holds-of p copy ks e l =
       reached = begins most4 p e;
       plan = rw (setup-taken p e);
       room = l;
-      sized = rw (setup-taken p e) tt;
-      going = λ x. record { none = refl; copy = refl };
-      over = λ x. clash {t = true} refl (sym (rw (setup-taken p e) at x));
+      kept = record {
+        sized = rw (setup-taken p e) tt;
+        going = λ x. record { none = refl; copy = refl };
+        over = λ x. clash {t = true} refl (sym (rw (setup-taken p e) at x));
+      };
     })
 
 -- ---- the theorems, for a plan that setup takes, a copy of its room and any replies
@@ -413,7 +411,7 @@ module _ (p : Plan) (copy : List ℕ) (ks : List Reply) (e : setupAnswer p ≡ s
 
   -- Before an ending no byte of the copy changes but for the good chunks': it is the copy at the beginning with each attempt's data laid over its front.
   pub going-copy : endedBy (heldOf p copy ks .state .phase) ≡ false → Going copy (heldOf p copy ks)
-  going-copy g = holds-of p copy ks e l .going g
+  going-copy g = holds-of p copy ks e l .kept .going g
 
   -- So its first bytes are the last attempt's data, and past what any attempt gathered it is as it was.
   pub going-front : endedBy (heldOf p copy ks .state .phase) ≡ false
@@ -426,7 +424,7 @@ module _ (p : Plan) (copy : List ℕ) (ks : List Reply) (e : setupAnswer p ≡ s
 
   -- A run that has ended gave one ending.
   pub ended-once : endedBy (heldOf p copy ks .state .phase) ≡ true → Over p (heldOf p copy ks)
-  ended-once g = holds-of p copy ks e l .over g
+  ended-once g = holds-of p copy ks e l .kept .over g
 
   over-with : (x : Finish) → heldOf p copy ks .endings ≡ x ∷ [] → (o : Over p (heldOf p copy ks)) × (o .finish ≡ x)
   over-with x q =
