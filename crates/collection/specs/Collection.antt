@@ -27,6 +27,7 @@ use Rattle.judgement.specs.declared.Move.the-variants.{End, Open, More, Skip, A
 use Rattle.judgement.specs.Endings.{numberOf}
 use Rattle.judgement.specs.Judgement.{testsOf, judgeBy}
 use Rattle.turns.specs.declared.Turn.{Turn}
+use Rattle.turns.specs.Refusals.{mostCount, validBy, fitsBy, firstRefusal}
 use Rattle.turns.specs.Turns.{turnOf}
 use Rattle.collection.specs.declared.Collection.{Collection}
 use Rattle.collection.specs.declared.Next.{Next}
@@ -50,28 +51,15 @@ lookOf s d = lookBy (s .phase) (s .plan) d
 
 -- ---- refusals of a step: 14, 13, 15
 
--- the most commands of so many attempts
-abbrev pub mostCount : ℕ → ℕ
-mostCount attempts = 2 + attempts * (most4 + 1)
-
 -- what a state's numbers must keep: setup's limits, the attempt, the command count, the header's area and the awaited chunk
 unfoldable pub validState : Collection → Bool
-validState s =
-    holds
-    (eqb (setupAnswer (s .plan)) success
-    ∷ (leb 1 (s .attempt .number) && leb (s .attempt .number) (s .plan .attempts))
-    ∷ leb (s .count) (mostCount (s .plan .attempts))
-    ∷ withinBy (s .phase) (s .plan) (s .attempt .last)
-    ∷ [])
+validState s = validBy (s .plan) (s .phase) (s .attempt) (s .count)
 
 -- a completion that fits the awaited command: a success brings its bytes and a refusal none, and the copy is as long as at setup
 unfoldable pub completionFits : Collection → Bool → ℕ → ℕ → Bool
-completionFits s ok bytes copy = eqb copy (s .plan .room) && eqb bytes (pick ok (expectedOf s) 0)
+completionFits s ok bytes copy = fitsBy (s .plan .room) (expectedOf s) ok bytes copy
 
 -- in this order, or 0
-abbrev pub firstRefusal : Bool → Bool → Bool → ℕ
-firstRefusal over valid fits = firstThat ((over, alreadyEnded) ∷ (not valid, badSetup) ∷ (not fits, doesNotFit) ∷ []) success
-
 unfoldable pub refusalOf : Collection → Bool → ℕ → ℕ → ℕ
 refusalOf s ok bytes copy = firstRefusal (endedBy (s .phase)) (validState s) (completionFits s ok bytes copy)
 

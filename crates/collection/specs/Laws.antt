@@ -26,7 +26,8 @@ use Rattle.judgement.specs.Judgement.{matches, newerThan, testsOf, firstOrder, 
 use Rattle.turns.specs.Turns.{good}
 use Rattle.collection.specs.declared.Collection.{Collection}
 use Rattle.collection.specs.declared.Decided.{Decided}
-use Rattle.collection.specs.Collection.{mostCount, validState, completionFits, expectedOf, firstRefusal, refusalOf, moveOf, madeOf, refusedOf, decideOf, Bounded}
+use Rattle.turns.specs.Refusals.{mostCount, firstRefusal, refusalBy}
+use Rattle.collection.specs.Collection.{validState, completionFits, expectedOf, refusalOf, moveOf, madeOf, refusedOf, decideOf, Bounded}
 
 -- ---- a valid state
 
@@ -80,6 +81,11 @@ not-refused s ok bytes copy e =
       copy-fits = eqb-true copy (s .plan .room) (and-left (eqb copy (s .plan .room)) (eqb bytes (pick ok (expectedOf s) 0)) (t .2));
       bytes-fit = eqb-true bytes (pick ok (expectedOf s) 0) (and-right (eqb copy (s .plan .room)) (eqb bytes (pick ok (expectedOf s) 0)) (t .2));
     }
+
+-- what speaks against a step of a state, from its parts
+pub refusal-is : (s : Collection) (ok : Bool) (bytes copy : ℕ) → refusalBy (s .plan) (s .phase) (s .attempt) (s .count) (record { ok = ok; bytes = bytes; copy = copy }) ≡ refusalOf s ok bytes copy
+unfolding refusalBy refusalOf validState completionFits expectedOf
+refusal-is s ok bytes copy = refl
 
 -- what `decide` is where its refusal is known
 pub decide-yes : (s : Collection) (ok : Bool) (bytes copy : ℕ) (h : Seen) (n : ℕ) (m : Move) (r : Decided)

@@ -11,14 +11,12 @@ use judgement::Ending;
 use judgement::Move;
 use plans::Phase;
 use plans::Plan;
+use turns::Offered;
 use turns::Turn;
 use words::Words;
 ghost use mathlib.Core.Path.{_≡_};
 ghost use lib.ListN.{length};
-ghost use Rattle.collection.specs.Collection.{awaitedOf, mostCount, firstRefusal, refusalOf, turnedTo, sends, ends, refuses, decidedBy, actOf, moveOf, madeOf, decideOf, beginning, setupOf, stepOf, copyAfter, Bounded};
-
-// The most commands of one attempt: the chunks of the largest area, a block each, and the closing header.
-const MOST_OF_ATTEMPT: u64 = 1048577;
+ghost use Rattle.collection.specs.Collection.{awaitedOf, turnedTo, sends, ends, refuses, decidedBy, actOf, moveOf, madeOf, decideOf, beginning, setupOf, stepOf, copyAfter, Bounded};
 
 // A state: what it was asked for, what it awaits, its attempt, and the number of commands sent.
 pub struct Collection {
@@ -32,6 +30,12 @@ pub struct Collection {
 pub struct Finish {
     pub ending: Ending,
     pub count: u64,
+}
+
+// What completes a command: whether it is a success, and its data.
+pub struct Completion<'a> {
+    pub ok: bool,
+    pub data: &'a [u8],
 }
 
 // What follows: the next command, the ending, or a refusal that changed nothing.
@@ -58,28 +62,6 @@ fn with_touch(stepped: Stepped, touch: Touch) -> Decided
     Decided { stepped, touch }
 }
 
-fn most_count(attempts: u32) -> u64
-    ensures { λ r. ⌜ r ≡ mostCount attempts ⌝ }
-{
-    2 + (attempts as u64) * MOST_OF_ATTEMPT
-}
-
-// The first that speaks against a step: the state is over, it is not valid, the completion does not fit.
-fn first_refusal(over: bool, valid: bool, fits: bool) -> u8
-    ensures { λ r. ⌜ r ≡ firstRefusal over valid fits ⌝ }
-{
-    if over {
-        return answers::ALREADY_ENDED;
-    }
-    if !valid {
-        return answers::BAD_SETUP;
-    }
-    if !fits {
-        return answers::DOES_NOT_FIT;
-    }
-    answers::SUCCESS
-}
-
 impl Collection {
     // The command that is awaited: five zero words after the ending.
     pub fn awaited(self) -> Words
@@ -90,23 +72,6 @@ impl Collection {
         let attempt = self.attempt;
         let last = attempt.last;
         plans::awaited(phase, plan, last)
-    }
-
-    // 14, 13, 15, or 0.
-    fn refusal(self, ok: bool, bytes: usize, copy: usize) -> u8
-        ensures { λ r. ⌜ r ≡ refusalOf self ok bytes copy ⌝ }
-    {
-        let plan = self.plan;
-        let phase = self.phase;
-        let attempt = self.attempt;
-        let last = attempt.last;
-        let due = plans::expected(phase, plan, last);
-        let valid = (plans::setup_answer(plan) == answers::SUCCESS)
-            & ((1 <= attempt.number) & (attempt.number <= plan.attempts))
-            & (self.count <= most_count(plan.attempts))
-            & due.within;
-        let fits = (copy == plan.room) & (bytes == choices::pick_usize(ok, due.bytes, 0));
-        first_refusal(plans::ended(phase), valid, fits)
     }
 
     // The state that a turn leads to, after this many commands.
@@ -197,7 +162,11 @@ impl Collection {
     pub fn decide(self, ok: bool, bytes: usize, copy: usize, seen: Seen) -> Decided
         ensures { λ r. ⌜ r ≡ decideOf self ok bytes copy seen ⌝ }
     {
-        let answer = self.refusal(ok, bytes, copy);
+        let plan = self.plan;
+        let phase = self.phase;
+        let attempt = self.attempt;
+        let offered = Offered { ok, bytes, copy };
+        let answer = turns::refusal(plan, phase, attempt, self.count, offered);
         if answer == answers::SUCCESS {
             return self.made(ok, seen);
         }
@@ -216,6 +185,13 @@ impl Collection {
         let touch = decided.touch;
         completions::settle(touch, data, copy);
         decided.stepped
+    }
+
+    // The same step, on a completion as one thing.
+    pub fn step_over<'a>(self, completion: Completion<'a>, copy: &mut [u8]) -> Stepped
+        ensures { λ r. ⌜ (r ≡ stepOf self (completion .entry .ok) (now (completion .entry .«data»)) (length (now (copy .entry)))) × (now (copy .exit) ≡ copyAfter self (completion .entry .ok) (now (completion .entry .«data»)) (now (copy .entry))) ⌝ }
+    {
+        self.step(completion.ok, completion.data, copy)
     }
 }
 

@@ -30,7 +30,8 @@ use Rattle.judgement.specs.declared.Move.{Move}
 use Rattle.judgement.specs.declared.Move.the-variants.{End, Open, More, Skip, Acknowledge}
 use Rattle.judgement.specs.Endings.{numberOf}
 use Rattle.collection.specs.declared.Collection.{Collection}
-use Rattle.collection.specs.Collection.{firstRefusal, validState, completionFits, refusalOf, lookOf, moveOf, setupOf, stepOf, answerOf}
+use Rattle.turns.specs.Refusals.{firstRefusal}
+use Rattle.collection.specs.Collection.{validState, completionFits, refusalOf, lookOf, moveOf, setupOf, stepOf, answerOf}
 use Rattle.collection.specs.Steps.{makes, setup-taken, setup-refused, refused-step, taken-step}
 use Rattle.controller.specs.Controller.{World, Candidate, lentBy, commandOf, captureAnswered, captureOf}
 use Rattle.controller.specs.Laws.{asked, command-answer}

@@ -31,7 +31,8 @@ use Rattle.plans.specs.Limits.{plan-limits, area-limit, chunk-inside}
 use Rattle.plans.specs.Phases.{judgedBy, endedBy, closingBy, silentBy, closing-is}
 use Rattle.plans.specs.Plans.{setupAnswer, areaLast, fitsRoom, insideBy, withinBy, phaseAt}
 use Rattle.completions.specs.Completions.{seenOf, lookBy}
-use Rattle.collection.specs.Collection.{mostCount, validState, completionFits, lookOf, refusalOf, moveOf, setupOf, answerOf}
+use Rattle.turns.specs.Refusals.{mostCount}
+use Rattle.collection.specs.Collection.{validState, completionFits, lookOf, refusalOf, moveOf, setupOf, answerOf}
 use Rattle.collection.specs.Laws.{move-cases}
 use Rattle.collection.specs.Steps.{makes, setup-taken, refused-step, taken-step}
 use Rattle.collection.specs.declared.Collection.{Collection}

@@ -1,6 +1,7 @@
-// What a move makes of a collection: the phase and the header that follow it, and what happens to the copy.
+// What a step refuses, and what a move makes of a collection: the phase and the header that follow it, and what happens to the copy.
 //
-// It rests on answers, pages, plans, completions and judgement. It promises the turn that any move in any attempt makes (specs/Turns.antt).
+// It rests on choices, answers, pages, plans, completions and judgement. It promises the first refusal of any step (specs/Refusals.antt), and the turn that any
+// move in any attempt makes (specs/Turns.antt).
 use completions::Seen;
 use completions::Touch;
 use judgement::Attempt;
@@ -12,7 +13,18 @@ ghost use mathlib.Core.Path.{_≡_};
 ghost use Prim.Native.Nat.{_-_, _*_};
 ghost use Rattle.choices.specs.Choice.{pick};
 ghost use Rattle.pages.specs.Pages.{block};
+ghost use Rattle.turns.specs.Refusals.{mostCount, firstRefusal, refusalBy};
 ghost use Rattle.turns.specs.Turns.{openingOf, followingOf, leftBy, turned, turnOf};
+
+// The most commands of one attempt: the chunks of the largest area, a block each, and the closing header.
+const MOST_OF_ATTEMPT: u64 = 1048577;
+
+// What is known of a completion before it is looked at: that it is a success, and how long its data and the lent copy are.
+pub struct Offered {
+    pub ok: bool,
+    pub bytes: usize,
+    pub copy: usize,
+}
 
 // What follows a move: the phase, in this attempt or the next one, the generation and last blocks of that attempt's header, and what happens to the
 // copy.
@@ -22,6 +34,43 @@ pub struct Turn {
     pub generation: u8,
     pub last: [u32; 4],
     pub touch: Touch,
+}
+
+fn most_count(attempts: u32) -> u64
+    ensures { λ r. ⌜ r ≡ mostCount attempts ⌝ }
+{
+    2 + (attempts as u64) * MOST_OF_ATTEMPT
+}
+
+// The first that speaks against a step: the state is over, it is not valid, the completion does not fit.
+fn first_refusal(over: bool, valid: bool, fits: bool) -> u8
+    ensures { λ r. ⌜ r ≡ firstRefusal over valid fits ⌝ }
+{
+    if over {
+        return answers::ALREADY_ENDED;
+    }
+    if !valid {
+        return answers::BAD_SETUP;
+    }
+    if !fits {
+        return answers::DOES_NOT_FIT;
+    }
+    answers::SUCCESS
+}
+
+// 14, 13, 15, or 0: what speaks against a step, in a state of this plan, phase, attempt and count of commands.
+pub fn refusal(plan: Plan, phase: Phase, attempt: Attempt, count: u64, offered: Offered) -> u8
+    ensures { λ r. ⌜ r ≡ refusalBy plan phase attempt count offered ⌝ }
+{
+    let last = attempt.last;
+    let due = plans::expected(phase, plan, last);
+    let valid = (plans::setup_answer(plan) == answers::SUCCESS)
+        & ((1 <= attempt.number) & (attempt.number <= plan.attempts))
+        & (count <= most_count(plan.attempts))
+        & due.within;
+    let fits = (offered.copy == plan.room)
+        & (offered.bytes == choices::pick_usize(offered.ok, due.bytes, 0));
+    first_refusal(plans::ended(phase), valid, fits)
 }
 
 // Where the chunk at a block goes: its offset less the header.

@@ -2,7 +2,7 @@
 -- Assumes nothing.
 use mathlib.Core.Path.{refl, sym, _∙_}
 use borrow.Author.Needs.{needs}
-use Rattle.collection.specs.Laws.{not-refused, valid-bounded, decide-yes, decide-no}
+use Rattle.collection.specs.Laws.{not-refused, valid-bounded, refusal-is, decide-yes, decide-no}
 use Rattle.collection.proofs.Collection.decide.Statement.{statement}
 use Rattle.collection.proofs.Collection.decide.Tie as tie
 
@@ -10,13 +10,17 @@ refusal-requires : tie.Need-refusal-requires
 refusal-requires c κs = search needs
 
 made-requires : tie.Need-made-requires
-made-requires c κs = valid-bounded _ (not-refused _ _ _ _ (sym (c .before .refusal .ensures) ∙ c .if1 .taken) .state)
+made-requires c κs =
+    let a = c .before .before .before .before .args in
+    let answer = c .before .refusal .ensures ∙ refusal-is (a .self) (a .ok) (a .bytes) (a .copy) in
+    valid-bounded (a .self) (not-refused (a .self) (a .ok) (a .bytes) (a .copy) (sym answer ∙ c .if1 .taken) .state)
 
 returns : tie.Need-returns
 returns c =
     let admitted = c .before .before in
-    let a = admitted .before .args in
-    decide-yes (a .self) (a .ok) (a .bytes) (a .copy) (a .seen) _ _ _ (admitted .refusal .ensures) (c .before .if1 .taken) refl (c .made .ensures)
+    let a = admitted .before .before .before .args in
+    decide-yes (a .self) (a .ok) (a .bytes) (a .copy) (a .seen) _ _ _ (admitted .refusal .ensures ∙ refusal-is (a .self) (a .ok) (a .bytes) (a .copy)) (c .before .if1 .taken) refl
+    (c .made .ensures)
 
 refused-requires : tie.Need-refused-requires
 refused-requires c κs = search needs
@@ -27,8 +31,8 @@ with-touch-requires c κs = search needs
 returns-2 : tie.Need-returns-2
 returns-2 c =
     let admitted = c .before .before .before in
-    let a = admitted .before .args in
-    decide-no (a .self) (a .ok) (a .bytes) (a .copy) (a .seen) _ _ (admitted .refusal .ensures) (c .before .before .if1 .left)
+    let a = admitted .before .before .before .args in
+    decide-no (a .self) (a .ok) (a .bytes) (a .copy) (a .seen) _ _ (admitted .refusal .ensures ∙ refusal-is (a .self) (a .ok) (a .bytes) (a .copy)) (c .before .before .if1 .left)
     (c .with-touch .ensures ∙ rw (c .before .refused .ensures))
 
 pub decide-spec : {M : Type 1} → statement M

@@ -1,4 +1,4 @@
--- `steps::step` meets its contract: a walk of its MIR, by hand. The completion is taken apart, and its fields go to `Collection::step` with the state and
+-- `collection::Collection::step_over` meets its contract: a walk of its MIR, by hand. The completion is taken apart, and its fields go to `Collection::step` with the state and
 -- the copy. All that the proof knows of that is that it meets its contract. It is called at the copy's own lifetime, share and ghost name, so what
 -- it says of the last bytes is what is said here. Nothing is kept of the state and of the completion.
 -- Assumes nothing.
@@ -41,30 +41,30 @@ use denote.Triple.Table.{entered, cited}
 use denote.Triple.Walked.{says, Stays, stay-dropped, gave-slice, walkOf, goes-dropped, goes-gave-slice, Walks, ends-at, walked, walk-meets}
 use denote.Exit.{yes}
 use denote.Triple.Clauses.{ensured, lasts}
 use Rattle.collection.specs.Collection.{stepOf, copyAfter}
 use Rattle.collection.specs.declared.Collection.{Collection}
-use Rattle.steps.specs.declared.Completion.{Completion}
+use Rattle.collection.specs.declared.Completion.{Completion}
 use Rattle.collection.specs.declared.Stepped.{Stepped}
 use Rattle.collection.proofs.Collection as S
 use Rattle.collection.proofs.Collection.Laws as S′
-use Rattle.steps.proofs.Completion as T
-use Rattle.steps.proofs.Completion.Laws as T′
+use Rattle.collection.proofs.Completion as T
+use Rattle.collection.proofs.Completion.Laws as T′
 use Rattle.collection.proofs.Stepped as R
 use Rattle.collection.proofs.Stepped.Laws as R′
 use Rattle.collection.proofs.Collection.step as apart
 use Rattle.collection.proofs.Collection.step.Symbol as apart-def
 use Rattle.collection.proofs.Collection.step.Symbol.{name as #collection·step}
 use Rattle.collection.proofs.Collection.step.Met as apart-thm
-use Rattle.steps.proofs.step.Key.{name as #steps·step}
-use Rattle.steps.proofs.step as step
-use Rattle.steps.proofs.step.Statement as stated
-use Rattle.steps.proofs.step.Code as code
+use Rattle.collection.proofs.Collection.step_over.Key.{name as #collection·step-over}
+use Rattle.collection.proofs.Collection.step_over as over
+use Rattle.collection.proofs.Collection.step_over.Statement as stated
+use Rattle.collection.proofs.Collection.step_over.Code as code
 
 -- the completion's type, over the signature's lifetimes
 abbrev B : Lfts 2 → RattleType
 B κs = T.the-row (namedLft 2 0 tt κs)
 
-abbrev stayed : Stays (step.ended .signature .params) (step.ended .kept)
+abbrev stayed : Stays (over.ended .signature .params) (over.ended .kept)
 stayed = (stay-dropped (plain (λ _. S.the-row)) yes, (stay-dropped (plain B) yes, (gave-slice (1 ∷ []) tt (plain (λ _. u8)), tt)))
 
 module _ {M : Type 1} (𝓤 : URA M) (H : Heap 𝓤) (A : Atoms 𝓤) (mem : Memory → SProp 𝓤) (run : Routine → Fun 𝓤) where
@@ -92,11 +92,11 @@ module _ {M : Type 1} (𝓤 : URA M) (H : Heap 𝓤) (A : Atoms 𝓤) (W : Given
   abbrev v : Val
   v = sliceVal (b, o) (length ys)
 
-  abbrev at : Vals step.signature κs
+  abbrev at : Vals over.signature κs
   at = (sval ∷ [], (cval ∷ [], (v ∷ [], tt)))
 
   abbrev Post : Val → SProp 𝓤
-  Post = walkOf 𝓤 H A step.ended stayed (step.clauses 𝓤 H A mem run) .post ((κs, (q, (q′, tt)), tt, (s, (c, (copy, tt))), at), tt)
+  Post = walkOf 𝓤 H A over.ended stayed (over.clauses 𝓤 H A mem run) .post ((κs, (q, (q′, tt)), tt, (s, (c, (copy, tt))), at), tt)
 
   -- the call of `Collection::step`
   abbrev passed : Vals apart.signature κs
@@ -105,7 +105,7 @@ module _ {M : Type 1} (𝓤 : URA M) (H : Heap 𝓤) (A : Atoms 𝓤) (W : Given
   abbrev to : Step 𝓤 H A mem run .Ghost
   to = ((κs, (q, (q′, tt)), tt, (s, (c .ok, (c .«data», (copy, tt)))), passed), tt)
 
-  goes : ent 𝓤 (onEntry 𝓤 H A step.signature κs (q, (q′, tt)) (s, (c, (copy, tt))) at) (Step 𝓤 H A mem run .pre to)
+  goes : ent 𝓤 (onEntry 𝓤 H A over.signature κs (q, (q′, tt)) (s, (c, (copy, tt))) at) (Step 𝓤 H A mem run .pre to)
   goes =
       qed W ((‵ (flft κ q) ⊛ ‵ (flft κ′ q′) ⊛ ‵ ftrue) ∷ ‵ (owns (S.the-row ∷ B κs ∷ MutSlice (named 1) κ′ u8 ∷ []) (s, (c, (copy, tt))) at) ∷ []) ∵
       move ! (1 ∷ []) $ fsplit ! $ move ! (1 ∷ []) $ fsplit ! $
@@ -125,13 +125,13 @@ module _ {M : Type 1} (𝓤 : URA M) (H : Heap 𝓤) (A : Atoms 𝓤) (W : Given
       → ent 𝓤 (⋆ 𝓤 H A ((‵ (flft κ q) ⊛ ‵ (flft κ′ q′) ⊛ ‵ ftrue) ∷ ‵ (finally u8 γ zs) ∷ ‵ (R.the-row .own r (u ∷ [])) ∷ [])) (Post u)
   exits r u zs e l =
       qed W ((‵ (flft κ q) ⊛ ‵ (flft κ′ q′) ⊛ ‵ ftrue) ∷ ‵ (finally u8 γ zs) ∷ ‵ (R.the-row .own r (u ∷ [])) ∷ []) ∵
-      suffices ! _ (ends-at 𝓤 H A step.ended stayed (step.clauses 𝓤 H A mem run) W ((κs, (q, (q′, tt)), tt, (s, (c, (copy, tt))), at), tt) u r (tt, (tt, (zs, tt))) (tt, (tt, (l, tt)))) $ says ! e $ frame ! $
+      suffices ! _ (ends-at 𝓤 H A over.ended stayed (over.clauses 𝓤 H A mem run) W ((κs, (q, (q′, tt)), tt, (s, (c, (copy, tt))), at), tt) u r (tt, (tt, (zs, tt))) (tt, (tt, (l, tt)))) $ says ! e $ frame ! $
       nothing ! $ move ! (1 ∷ 0 ∷ []) $ fjoin ! $ nothing ! $ fjoin ! $ nothing ! $ fjoin ! $ done !
 
   module _ (C : Calls 𝓤 H) (Λ : Loops 𝓤 H) (fm : FmC 𝓤 H (W .laws) C) (known : Triple 𝓤 (C #collection·step) (Step 𝓤 H A mem run)) where
-    walk : Holds (hasTy (T′.mir (named 0)) cval) × WT cval → Holds (hasTy S′.mir sval) × WT sval → Room u8 (length ys) → ent 𝓤 (onEntry 𝓤 H A step.signature κs (q, (q′, tt)) (s, (c, (copy, tt))) at) (WpFn 𝓤 H C Λ code.function (sval ∷ cval ∷ v ∷ []) Post)
+    walk : Holds (hasTy (T′.mir (named 0)) cval) × WT cval → Holds (hasTy S′.mir sval) × WT sval → Room u8 (length ys) → ent 𝓤 (onEntry 𝓤 H A over.signature κs (q, (q′, tt)) (s, (c, (copy, tt))) at) (WpFn 𝓤 H C Λ code.function (sval ∷ cval ∷ v ∷ []) Post)
     walk wt ws room =
-        qed W (raw (onEntry 𝓤 H A step.signature κs (q, (q′, tt)) (s, (c, (copy, tt))) at) ∷ []) ∵ enter ! C Λ code.function (sval ∷ cval ∷ v ∷ []) _ $
+        qed W (raw (onEntry 𝓤 H A over.signature κs (q, (q′, tt)) (s, (c, (copy, tt))) at) ∷ []) ∵ enter ! C Λ code.function (sval ∷ cval ∷ v ∷ []) _ $
         alloc1 ! (λ l₀. alloc1 ! (λ l₁. alloc1 ! (λ l₂. alloc1 ! (λ l₃. alloc1 ! (λ l₄. alloc1 ! (λ l₅. alloc1 ! (λ l₆. alloc1 ! (λ l₇. alloc0 ! $ params1 ! $
         pass1 ! (init ! 12 refl ws) $ pass1 ! (init ! 10 refl wt) $ pass1 ! (init ! 8 refl (tt, (tt, (record { fits = room .0 }, tt)))) $ pass0 ! $
         -- [room for _7; …; _6; …; _5; …; _4; …; _3; …; _2; …; _1; …; _0; …; the entry]
@@ -154,26 +154,26 @@ module _ {M : Type 1} (𝓤 : URA M) (H : Heap 𝓤) (A : Atoms 𝓤) (W : Given
         keep ! (1 ∷ 2 ∷ 0 ∷ []) $ by ! (exits r u (zs .1 .1 .1 .0) e l)))))))))))))))
 
 module _ {M : Type 1} (𝓤 : URA M) (H : Heap 𝓤) (A : Atoms 𝓤) (W : Given 𝓤 H A) (mem : Memory → SProp 𝓤) (run : Routine → Fun 𝓤) where
-  step-walks : (C : Calls 𝓤 H) (Λ : Loops 𝓤 H) → FmC 𝓤 H (W .laws) C → Triple 𝓤 (C #collection·step) (Step 𝓤 H A mem run)
-      → Walks 𝓤 H A step.ended stayed (WpFn 𝓤 H C Λ code.function) (step.clauses 𝓤 H A mem run)
-  step-walks C Λ fm known = walked 𝓤 H A step.ended stayed (step.clauses 𝓤 H A mem run) (WpFn 𝓤 H C Λ code.function)
+  over-walks : (C : Calls 𝓤 H) (Λ : Loops 𝓤 H) → FmC 𝓤 H (W .laws) C → Triple 𝓤 (C #collection·step) (Step 𝓤 H A mem run)
+      → Walks 𝓤 H A over.ended stayed (WpFn 𝓤 H C Λ code.function) (over.clauses 𝓤 H A mem run)
+  over-walks C Λ fm known = walked 𝓤 H A over.ended stayed (over.clauses 𝓤 H A mem run) (WpFn 𝓤 H C Λ code.function)
       (λ κs. (LL.vals S.the-type S′.the-laws, (LL.vals (T.the-type (namedLft 2 0 tt κs)) (T′.the-laws (namedLft 2 0 tt κs)), (slice-vals, tt))))
       (λ κs. (LL.tells S.the-type S′.the-laws, (LL.tells (T.the-type (namedLft 2 0 tt κs)) (T′.the-laws (namedLft 2 0 tt κs)), (mut-slice-tells (named 1) (κs .1 .0) u8, tt))))
       (λ κs qs bounds a g are. via 𝓤 _ (fst∗ 𝓤 _ (emp 𝓤))
       (walk 𝓤 H A W mem run (κs .0) (κs .1 .0) (qs .0) (qs .1 .0) (a .0) (a .1 .0) (a .1 .1 .0 .ptr .0) (a .1 .1 .0 .ptr .1) (a .1 .1 .0 .name) (a .1 .1 .0 .now) (LL.val S.the-type S′.the-laws (a .0)) C Λ fm known
       (LL.lawful (T.the-type (namedLft 2 0 tt κs)) (T′.the-laws (namedLft 2 0 tt κs)) 𝓤 H A W .typed (a .1 .0) _ (are .1 .0) .0) (LL.lawful S.the-type S′.the-laws 𝓤 H A W .typed (a .0) _ (are .0) .0) (are .1 .1 .0 .0 .1)))
 
-step-meets : {M : Type 1} (𝓤 : URA M) (H : Heap 𝓤) (A : Atoms 𝓤) (W : Given 𝓤 H A) (mem : Memory → SProp 𝓤) (run : Routine → Fun 𝓤) (𝓣 : Tables 𝓤 H)
+over-meets : {M : Type 1} (𝓤 : URA M) (H : Heap 𝓤) (A : Atoms 𝓤) (W : Given 𝓤 H A) (mem : Memory → SProp 𝓤) (run : Routine → Fun 𝓤) (𝓣 : Tables 𝓤 H)
     → Triple 𝓤 (𝓣 .C #collection·step) (Step 𝓤 H A mem run)
-    → Meets 𝓤 H A step.signature (WpFn 𝓤 H (𝓣 .C) (𝓣 .Λ) code.function) (step.spec 𝓤 H A mem run)
-step-meets 𝓤 H A W mem run 𝓣 known =
-    walk-meets 𝓤 H A step.ended stayed W (goes-dropped 𝓤 H A W 2 (plain (λ _. S.the-row)) yes (λ κs x f. refl), (goes-dropped 𝓤 H A W 2 (plain B) yes (λ κs x f. refl), (goes-gave-slice 𝓤 H A W 2 1 tt (plain (λ _. u8)), tt))) (step.clauses 𝓤 H A mem run)
-    (WpFn 𝓤 H (𝓣 .C) (𝓣 .Λ) code.function) (WpFn-mono 𝓤 H (W .laws) 𝓣 code.function) (step-walks 𝓤 H A W mem run (𝓣 .C) (𝓣 .Λ) (fmOf 𝓤 H (W .laws) 𝓣) known)
+    → Meets 𝓤 H A over.signature (WpFn 𝓤 H (𝓣 .C) (𝓣 .Λ) code.function) (over.spec 𝓤 H A mem run)
+over-meets 𝓤 H A W mem run 𝓣 known =
+    walk-meets 𝓤 H A over.ended stayed W (goes-dropped 𝓤 H A W 2 (plain (λ _. S.the-row)) yes (λ κs x f. refl), (goes-dropped 𝓤 H A W 2 (plain B) yes (λ κs x f. refl), (goes-gave-slice 𝓤 H A W 2 1 tt (plain (λ _. u8)), tt))) (over.clauses 𝓤 H A mem run)
+    (WpFn 𝓤 H (𝓣 .C) (𝓣 .Λ) code.function) (WpFn-mono 𝓤 H (W .laws) 𝓣 code.function) (over-walks 𝓤 H A W mem run (𝓣 .C) (𝓣 .Λ) (fmOf 𝓤 H (W .laws) 𝓣) known)
 
-pub step-spec : {M : Type 1} → stated.statement M
+pub step-over-spec : {M : Type 1} → stated.statement M
 unfolding code.routine tablesOf
-step-spec 𝓤 H 𝓜 𝓖 𝓡 =
-    entered 𝓤 H (tripleOf 𝓤 H (𝓖 .A) step.signature (step.spec 𝓤 H (𝓖 .A) (𝓜 .mem) (𝓡 .run)))
-    (tables 𝓤 H 𝓜 𝓡 code.env .C) (tables 𝓤 H 𝓜 𝓡 code.env .Λ) #steps·step code.function (code.unfolded 𝓤 H 𝓜 𝓡)
-    (step-meets 𝓤 H (𝓖 .A) (givenOf 𝓤 H 𝓜 𝓖) (𝓜 .mem) (𝓡 .run) (tablesOf 𝓤 H 𝓜 (tables 𝓤 H 𝓜 𝓡 code.env))
+step-over-spec 𝓤 H 𝓜 𝓖 𝓡 =
+    entered 𝓤 H (tripleOf 𝓤 H (𝓖 .A) over.signature (over.spec 𝓤 H (𝓖 .A) (𝓜 .mem) (𝓡 .run)))
+    (tables 𝓤 H 𝓜 𝓡 code.env .C) (tables 𝓤 H 𝓜 𝓡 code.env .Λ) #collection·step-over code.function (code.unfolded 𝓤 H 𝓜 𝓡)
+    (over-meets 𝓤 H (𝓖 .A) (givenOf 𝓤 H 𝓜 𝓖) (𝓜 .mem) (𝓡 .run) (tablesOf 𝓤 H 𝓜 (tables 𝓤 H 𝓜 𝓡 code.env))
     (cited 𝓤 H (Step 𝓤 H (𝓖 .A) (𝓜 .mem) (𝓡 .run)) 𝓜 𝓡 code.env #collection·step apart-def.routine code.calls-collection·Collection·step (apart-thm.met 𝓤 H 𝓜 𝓖 𝓡)))

@@ -1,12 +1,12 @@
--- `collection::Collection::refusal` meets its contract: the tests are the definitions' rows.
+-- `turns::refusal` meets its contract: the tests are the definitions' rows.
 -- Assumes nothing.
 use mathlib.Core.Path.{_∙_}
 use borrow.Author.Needs.{needs}
 use Rattle.choices.specs.Tests.{holds}
 use Rattle.plans.specs.Plans.{dueBy}
-use Rattle.collection.specs.Collection.{refusalOf, validState, completionFits, expectedOf}
-use Rattle.collection.proofs.Collection.refusal.Statement.{statement}
-use Rattle.collection.proofs.Collection.refusal.Tie as tie
+use Rattle.turns.specs.Refusals.{refusalBy}
+use Rattle.turns.proofs.refusal.Statement.{statement}
+use Rattle.turns.proofs.refusal.Tie as tie
 
 expected-requires : tie.Need-expected-requires
 expected-requires c κs = search needs
@@ -27,12 +27,13 @@ first-refusal-requires : tie.Need-first-refusal-requires
 first-refusal-requires c κs = search needs
 
 returns : tie.Need-returns
-unfolding refusalOf validState completionFits expectedOf holds dueBy
+unfolding refusalBy holds dueBy
 returns c =
-    let back6 = c .before .before .before .before .before .before in
-    let back10 = back6 .before .before .before .before in
+    let back3 = c .before .before .before in
+    let back7 = back3 .before .before .before .before in
+    let back11 = back7 .before .before .before .before in
     c .first-refusal .ensures
-    ∙ rw (c .before .ended .ensures, c .before .before .pick-usize .ensures, back6 .most-count .ensures, back10 .setup-answer .ensures, back10 .before .expected .ensures)
+    ∙ rw (c .before .ended .ensures, back3 .pick-usize .ensures, back7 .most-count .ensures, back11 .setup-answer .ensures, back11 .before .expected .ensures)
 
 pub refusal-spec : {M : Type 1} → statement M
 refusal-spec =
