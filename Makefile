@@ -5,7 +5,7 @@
 # make sanitize  runs the program's tests with the address and undefined-behaviour sanitizers
 # make valgrind  runs the program's tests under valgrind
 # make faults    lets collections meet every fault, one at a time: failing system calls and commands, signals (some minutes)
-# make fuzz      calls the library with whatever a fuzzer thinks of, for ten minutes (SECONDS=600)
+# make fuzz      calls the library, and then the server, with whatever a fuzzer thinks of, for ten minutes each (SECONDS=600)
 # make demo      shows a collection that a capture interrupts
 # make bench     measures serving and collecting against memcpy and against nvme-cli, as ratios in one run (BENCH_MIB=512)
 # make clean     removes build/; what rt has proved stays in target/
@@ -104,10 +104,12 @@ sanitize: build/libbumbazeel.a
 	@$(MAKE) --no-print-directory OBJECTS=build/sanitize build/sanitize/bumbazeel CFLAGS='-O1 -g -fno-omit-frame-pointer $(SANITIZERS)'
 	@ASAN_OPTIONS=exitcode=99 UBSAN_OPTIONS=exitcode=99 BUMBAZEEL=build/sanitize/bumbazeel tests/outside/program
 	@ASAN_OPTIONS=exitcode=99 UBSAN_OPTIONS=exitcode=99 BUMBAZEEL=build/sanitize/bumbazeel tests/outside/device
+	@ASAN_OPTIONS=exitcode=99 UBSAN_OPTIONS=exitcode=99 BUMBAZEEL=build/sanitize/bumbazeel tests/outside/serve
 
 valgrind: build/bumbazeel
 	@BUMBAZEEL=tests/valgrind tests/outside/program
 	@BUMBAZEEL=tests/valgrind tests/outside/device
+	@BUMBAZEEL=tests/valgrind tests/outside/serve
 
 faults: build/bumbazeel build/shim.so
 	@tests/outside/faults --all
@@ -116,15 +118,25 @@ faults: build/bumbazeel build/shim.so
 SECONDS ?= 600
 FUZZER_CC ?= clang
 
-fuzz: build/fuzz/fuzz
-	@mkdir -p build/fuzz/corpus
+fuzz: build/fuzz/fuzz build/fuzz/pdu
+	@mkdir -p build/fuzz/corpus build/fuzz/corpus-pdu
 	build/fuzz/fuzz -max_total_time=$(SECONDS) -max_len=512 -print_final_stats=1 -artifact_prefix=build/fuzz/ \
 		build/fuzz/corpus tests/fuzz/corpus
+	build/fuzz/pdu -max_total_time=$(SECONDS) -max_len=2048 -print_final_stats=1 -artifact_prefix=build/fuzz/ \
+		build/fuzz/corpus-pdu tests/fuzz/corpus-pdu
 
 build/fuzz/fuzz: tests/fuzz/fuzz.c include/bumbazeel.h build/libbumbazeel.a
 	@mkdir -p $(@D)
 	$(FUZZER_CC) -std=c11 -O1 -g -Wall -Wextra -Iinclude -fsanitize=fuzzer,address,undefined -fno-sanitize-recover=all \
 		-o $@ $< build/libbumbazeel.a
+
+# the server without its sockets
+PDU_SOURCES := $(addprefix program/,transport.c admin.c embedded.c hold.c lazy.c device.c names.c)
+
+build/fuzz/pdu: tests/fuzz/pdu.c $(PDU_SOURCES) $(wildcard program/*.h) build/libbumbazeel.a
+	@mkdir -p $(@D)
+	$(FUZZER_CC) $(PROGRAM_FLAGS) -O1 -g -Wall -Wextra -fsanitize=fuzzer,address,undefined -fno-sanitize-recover=all \
+		-o $@ $< $(PDU_SOURCES) build/libbumbazeel.a
 
 demo: build/bumbazeel
 	@program/demo build/bumbazeel

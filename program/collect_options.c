@@ -2,6 +2,7 @@
 #include "collect_options.h"
 
 #include "arguments.h"
+#include "embedded_options.h"
 #include "numbers.h"
 #include "say.h"
 
@@ -9,8 +10,6 @@
 #include <stdlib.h>
 #include <string.h>
 #include <unistd.h>
-
-static const uint8_t EVERY_CAP = BUMBAZEEL_EXTENDED | BUMBAZEEL_TELEMETRY | BUMBAZEEL_DA4S | BUMBAZEEL_ETDAS | BUMBAZEEL_MCDAS;
 
 static const char help[] = "usage: bumbazeel collect [OPTIONS] [DEVICE] OUTPUT\n"
                            "       bumbazeel collect [OPTIONS] DEVICE... --output-dir FOLDER\n"
@@ -42,69 +41,12 @@ static const char help[] = "usage: bumbazeel collect [OPTIONS] [DEVICE] OUTPUT\n
                            "  --quiet               say nothing of a plain success\n"
                            "\n"
                            "The embedded drive, to rehearse with:\n"
-                           "  --seed N              what its captures hold is made from N (1)\n"
-                           "  --drive-areas A1,A2,A3,A4\n"
-                           "                        last blocks of its captures (8,24,64,128)\n"
-                           "  --drive-no-area4      it has no area 4\n"
-                           "  --drive-no-etdas      it has, but the host has not said yes to it\n"
-                           "  --drive-no-mcda       it does not honour the greatest area wanted\n"
-                           "  --drive-generation N  its generation at the start, 0 to 255 (1)\n"
-                           "  --drive-empty         it holds no capture at the start\n"
+                           EMBEDDED_HELP
                            "  --capture-before N[:A1,A2,A3,A4]\n"
                            "                        a capture comes right before the run's command N\n"
                            "  --clear-before N      another host acknowledges before command N (08h)\n"
                            "  --refuse N            command N is refused, as by a broken drive\n"
                            "The last three may be given more than once and happen in their order.\n";
-
-static struct happening *add_happening(struct collect_options *o, const char *option) {
-    struct happening *all = realloc(o->drive.happenings, (o->drive.count + 1) * sizeof *all);
-    if (!all)
-        die("no memory for %s", option);
-    o->drive.happenings = all;
-    return &all[o->drive.count++];
-}
-
-/* N, or N:A1,A2,A3,A4 for a capture. */
-static void read_happening(struct collect_options *o, const char *option, enum what what, const char *value) {
-    const char *colon = what == CAPTURE ? strchr(value, ':') : NULL;
-    char *number = colon ? strndup(value, (size_t)(colon - value)) : strdup(value);
-    struct happening *h = add_happening(o, option);
-    if (!number)
-        die("no memory for %s", option);
-    *h = (struct happening){.what = what, .before = (uint32_t)number_of(option, number, 1, UINT32_MAX)};
-    free(number);
-    if (colon)
-        areas_of(option, colon + 1, h->areas);
-    else
-        h->areas[3] = UINT32_MAX; /* as --drive-areas, which may come later */
-}
-
-static bool read_embedded_option(struct collect_options *o, struct arguments *a) {
-    const char *value;
-    if (argument_value(a, "--seed", &value))
-        o->drive.seed = number_of("--seed", value, 0, UINT64_MAX);
-    else if (argument_value(a, "--drive-areas", &value))
-        areas_of("--drive-areas", value, o->drive.areas);
-    else if (argument_flag(a, "--drive-no-area4"))
-        o->drive.caps &= (uint8_t)~(BUMBAZEEL_DA4S | BUMBAZEEL_ETDAS);
-    else if (argument_flag(a, "--drive-no-etdas"))
-        o->drive.caps &= (uint8_t)~BUMBAZEEL_ETDAS;
-    else if (argument_flag(a, "--drive-no-mcda"))
-        o->drive.caps &= (uint8_t)~BUMBAZEEL_MCDAS;
-    else if (argument_value(a, "--drive-generation", &value))
-        o->drive.generation = (uint8_t)number_of("--drive-generation", value, 0, 255);
-    else if (argument_flag(a, "--drive-empty"))
-        o->drive.empty = true;
-    else if (argument_value(a, "--capture-before", &value))
-        read_happening(o, "--capture-before", CAPTURE, value);
-    else if (argument_value(a, "--clear-before", &value))
-        read_happening(o, "--clear-before", CLEAR, value);
-    else if (argument_value(a, "--refuse", &value))
-        read_happening(o, "--refuse", REFUSAL, value);
-    else
-        return false;
-    return true;
-}
 
 /* What is collected, and from which drive. */
 static bool read_wish(struct collect_options *o, struct arguments *a) {
@@ -207,24 +149,21 @@ static void complete(struct collect_options *o) {
     o->wish.hash = o->json;
     bool listing_in_view = o->wish.list && isatty(STDOUT_FILENO); /* it shows the progress, line by line */
     o->wish.progress = !o->quiet && !listing_in_view && isatty(STDERR_FILENO);
-    for (size_t i = 0; i < o->drive.count; i++) {
-        struct happening *h = &o->drive.happenings[i];
-        if (h->areas[3] == UINT32_MAX)
-            memcpy(h->areas, o->drive.areas, sizeof h->areas);
-        judge_happening(o, h);
-    }
+    complete_embedded(&o->drive);
+    for (size_t i = 0; i < o->drive.count; i++)
+        judge_happening(o, &o->drive.happenings[i]);
 }
 
 struct collect_options collect_options_of(char **words) {
     struct collect_options o = {.wish = {.page = 7, .blocks = 128, .attempts = 5},
-                                .drive = {.seed = 1, .areas = {8, 24, 64, 128}, .caps = EVERY_CAP, .generation = 1}};
+                                .drive = usual_embedded()};
     struct arguments a = arguments_of("collect", words);
     struct operands operands = {.count = 0};
     while (argument_next(&a)) {
         const char *word = a.word;
         if (argument_flag(&a, "--help|-h"))
             print_help(help);
-        if (read_embedded_option(&o, &a))
+        if (read_embedded_option(&o.drive, &a))
             o.embedded_only = word;
         else if (!read_wish(&o, &a) && !read_manner(&o, &a))
             operands_add(&operands, argument_operand(&a));

@@ -2,14 +2,14 @@
 _bumbazeel() {
     local word=${COMP_WORDS[COMP_CWORD]} before=${COMP_WORDS[COMP_CWORD - 1]} command=${COMP_WORDS[1]:-} options
     if [ "$COMP_CWORD" = 1 ] || { [ "$command" = help ] && [ "$COMP_CWORD" = 2 ]; }; then
-        mapfile -t COMPREPLY < <(compgen -W 'collect status list check words help --help --version' -- "$word")
+        mapfile -t COMPREPLY < <(compgen -W 'collect status list check words serve help --help --version' -- "$word")
         return
     fi
     case $before in
     --page) mapfile -t COMPREPLY < <(compgen -W '07h 08h' -- "$word") && return ;;
     --area | --data-area | -d) mapfile -t COMPREPLY < <(compgen -W '1 2 3 4' -- "$word") && return ;;
     --host-generate | -g | --rae) mapfile -t COMPREPLY < <(compgen -W '0 1' -- "$word") && return ;;
-    --output-dir) mapfile -t COMPREPLY < <(compgen -d -- "$word") && return ;;
+    --output-dir | --hold) mapfile -t COMPREPLY < <(compgen -d -- "$word") && return ;;
     esac
     if [[ $word == -* ]]; then
         # the options are those that the command's help lists

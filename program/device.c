@@ -176,3 +176,5 @@ struct drive *device_open(const char *path, uint32_t timeout) {
 }
 
 const char *drive_name(const struct drive *drive) { return drive->path ? drive->path : "the embedded drive"; }
+
+size_t transfer_bytes(const uint32_t words[5]) { return 4 * ((size_t)(words[0] >> 16 | (words[1] & 0xFFFF) << 16) + 1); }

@@ -33,13 +33,26 @@ const char *drive_name(const struct drive *drive);
 /* Opens it and asks what it can do. A command may take `timeout` milliseconds; 0: as long as the system lets it. Dies if it is no drive. */
 struct drive *device_open(const char *path, uint32_t timeout);
 
+/* The bytes that a Get Log Page of these words transfers: those of the library's words, and of any to a drive with extended data. */
+size_t transfer_bytes(const uint32_t words[5]);
+
 /* ---- the embedded drive: the library's own controller, with contents made from a seed */
 
-/* What happens right before a command of the run, counted from 1. */
+/* What happens right before a command, counted from 1. The last four are for a command that comes over a connection. */
 struct happening {
-    enum what { CAPTURE, CLEAR, REFUSAL } what;
-    uint32_t before;
+    enum what {
+        CAPTURE,      /* another capture is taken */
+        CLEAR,        /* another host acknowledges page 08h */
+        REFUSAL,      /* the command is refused */
+        CLOSE_BEFORE, /* its connection is closed, and it is not done */
+        CLOSE_UNTOLD, /* it is done, and its connection is closed before it is answered */
+        CLOSE_AFTER,  /* it is done and answered, and then its connection is closed */
+        DELAY         /* it is done and answered later */
+    } what;
+    uint64_t before;
+    uint8_t page;      /* of a capture; 0: the one that the command asks for */
     uint32_t areas[4]; /* of a capture */
+    uint32_t number;   /* the status of a refusal; the milliseconds of a delay */
 };
 
 struct embedded {
@@ -54,5 +67,44 @@ struct embedded {
 
 /* A drive with a capture on the page. The happenings, in their order, happen as the run sends its commands. */
 struct drive *embedded_open(uint8_t page, const struct embedded *plan);
+
+/* A drive with a capture on each page, first 08h and then 07h, for the functions below. What it refuses in the middle is said and does not
+ * end the program. */
+const struct drive *embedded_open_both(const struct embedded *plan);
+
+/* What is to become of a command, besides its answer. */
+struct fate {
+    uint16_t refusal; /* 0: it is not refused before the controller sees it */
+    uint32_t delay;
+    enum what closing; /* CAPTURE: its connection stays */
+};
+
+/* Counts a command on the page, and lets happen what is to happen before it. */
+struct fate embedded_before(uint8_t page);
+
+/* The controller's answer to the words; with success data holds what they ask for. */
+uint8_t embedded_answer(const uint32_t words[5], uint8_t *data, size_t bytes);
+
+/* Lets a capture or a clearing happen now: the controller's answer. */
+uint8_t embedded_now(const struct happening *happening);
+
+/* Lets something happen before the n-th command from now, n being what `before` says. False: too much is to happen already, or there is no
+ * room for such a capture. */
+bool embedded_later(const struct happening *happening);
+
+/* Nothing more is to happen. */
+void embedded_forget(void);
+
+/* The last blocks of the captures that name none. */
+const uint32_t *embedded_areas(void);
+
+/* Whether the record has changed since this was last asked. */
+bool embedded_changed(void);
+
+/* The record's notice: an event tells of 08h data. */
+bool embedded_notice(void);
+
+/* What the page holds: its header, and the bytes of its blocks, which are behind *blocks. */
+size_t embedded_held(uint8_t page, uint8_t header[BUMBAZEEL_BLOCK], const uint8_t **blocks);
 
 #endif

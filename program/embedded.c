@@ -9,9 +9,10 @@
 #include "say.h"
 
 #include <stdio.h>
+#include <stdlib.h>
 #include <string.h>
 
-enum { SCOPE_CONTROLLER = 1 };
+enum { SCOPE_CONTROLLER = 1, MOST_HAPPENINGS = 1024 };
 static const uint32_t CREATE_BIT = 1u << 8;
 static const uint16_t INTERNAL_ERROR = 0x0006; /* the generic status of a drive that cannot say more */
 static const uint32_t OUI = 0x02425A; /* a locally administered one: nobody's */
@@ -27,11 +28,12 @@ struct candidate {
 static struct {
     struct drive drive;
     struct embedded plan;
-    uint8_t page;
-    struct bumbazeel_record record;
-    uint8_t *host, *controller; /* the stores: only the page collected has one */
+    uint8_t page; /* the only one; 0: both */
+    struct bumbazeel_record record, told; /* `told` is the record when it was last asked whether it has changed */
+    uint8_t *host, *controller; /* the stores: of one page only that one has any bytes */
     size_t host_bytes, controller_bytes;
     uint8_t *spare; /* where a candidate's contents are made */
+    size_t spare_bytes;
     uint64_t captures, sent;
 } here;
 
@@ -84,58 +86,122 @@ static uint8_t command(const struct candidate *c, const uint32_t words[5], uint8
 }
 
 /* A command of another host, which reads the header of the page. */
-static uint8_t others_command(uint8_t create, uint8_t rae, const struct candidate *c) {
+static uint8_t others_command(uint8_t page, uint8_t create, uint8_t rae, const struct candidate *c) {
     uint32_t words[5];
     uint8_t header[BLOCK];
-    uint8_t answer = bumbazeel_words(here.page, create, 0, rae, 0, 1, words);
+    uint8_t answer = bumbazeel_words(page, create, 0, rae, 0, 1, words);
     return answer ? answer : command(c, words, header, sizeof header);
 }
 
-static void capture(const uint32_t areas[4]) {
+static uint8_t capture(uint8_t page, const uint32_t areas[4]) {
     struct candidate c = next_candidate(areas);
     struct bumbazeel_lent all = lent(&c);
-    uint8_t answer = here.page == BUMBAZEEL_HOST_PAGE ? others_command(1, 1, &c) : bumbazeel_capture_on(&all);
-    if (answer)
-        die("the embedded drive takes no capture of areas %u,%u,%u,%u on page %02Xh: %u (%s)", (unsigned)areas[0], (unsigned)areas[1],
-            (unsigned)areas[2], (unsigned)areas[3], here.page, answer, meaning(answer));
+    return page == BUMBAZEEL_HOST_PAGE ? others_command(page, 1, 1, &c) : bumbazeel_capture_on(&all);
 }
 
-static void clear(void) {
+static uint8_t clear(void) {
     struct candidate none = no_candidate();
-    uint8_t answer = others_command(0, 0, &none);
-    if (answer)
-        die("the embedded drive takes no acknowledgement: %u (%s)", answer, meaning(answer));
+    return others_command(BUMBAZEEL_CONTROLLER_PAGE, 0, 0, &none);
 }
 
-/* Lets happen what is to happen before this command; true if the command itself is to be refused. */
-static bool refused_after_happenings(void) {
-    bool refused = false;
+/* A run ends where the drive cannot do what is to happen; a drive with both pages serves on. */
+static void tell(uint8_t answer, const char *what) {
+    void (*how)(const char *format, ...) = here.page ? die : say;
+    if (answer)
+        how("the embedded drive takes no %s: %u (%s)", what, answer, meaning(answer));
+}
+
+static void tell_capture(uint8_t answer, uint8_t page, const uint32_t areas[4]) {
+    char what[120];
+    snprintf(what, sizeof what, "capture of areas %u,%u,%u,%u on page %02Xh", (unsigned)areas[0], (unsigned)areas[1], (unsigned)areas[2],
+             (unsigned)areas[3], page);
+    tell(answer, what);
+}
+
+/* Lets one thing happen before a command on the page. */
+static void let_happen(const struct happening *h, uint8_t page, struct fate *fate) {
+    uint8_t captured = h->page ? h->page : page;
+    if (h->what == CAPTURE)
+        tell_capture(capture(captured, h->areas), captured, h->areas);
+    else if (h->what == CLEAR)
+        tell(clear(), "acknowledgement");
+    else if (h->what == REFUSAL)
+        fate->refusal = (uint16_t)(h->number ? h->number : INTERNAL_ERROR);
+    else if (h->what == DELAY)
+        fate->delay = h->number;
+    else
+        fate->closing = h->what;
+}
+
+struct fate embedded_before(uint8_t page) {
+    struct fate fate = {.closing = CAPTURE};
+    size_t left = 0;
+    here.sent++;
     for (size_t i = 0; i < here.plan.count; i++) {
-        const struct happening *h = &here.plan.happenings[i];
-        if (h->before != here.sent)
-            continue;
-        if (h->what == CAPTURE)
-            capture(h->areas);
-        else if (h->what == CLEAR)
-            clear();
-        else
-            refused = true;
+        if (here.plan.happenings[i].before == here.sent)
+            let_happen(&here.plan.happenings[i], page, &fate);
+        else if (here.plan.happenings[i].before > here.sent)
+            here.plan.happenings[left++] = here.plan.happenings[i];
     }
-    return refused;
+    here.plan.count = left;
+    return fate;
+}
+
+uint8_t embedded_answer(const uint32_t words[5], uint8_t *data, size_t bytes) {
+    bool create = (words[0] & 0xFF) == BUMBAZEEL_HOST_PAGE && words[0] & CREATE_BIT;
+    struct candidate c = create ? next_candidate(here.plan.areas) : no_candidate();
+    return command(&c, words, data, bytes);
 }
 
 static enum completion embedded_send(struct drive *drive, const uint32_t words[5], uint8_t *data, size_t bytes) {
-    here.sent++;
-    if (refused_after_happenings()) {
-        drive->refusal = INTERNAL_ERROR;
-        return REFUSED;
-    }
-    bool create = here.page == BUMBAZEEL_HOST_PAGE && words[0] & CREATE_BIT;
-    struct candidate c = create ? next_candidate(here.plan.areas) : no_candidate();
-    uint8_t answer = command(&c, words, data, bytes);
+    struct fate fate = embedded_before(here.page);
+    uint8_t answer = fate.refusal ? 0 : embedded_answer(words, data, bytes);
+    if (fate.refusal || answer)
+        drive->refusal = fate.refusal ? fate.refusal : bumbazeel_status(answer);
+    return fate.refusal || answer ? REFUSED : SUCCEEDED;
+}
+
+uint8_t embedded_now(const struct happening *happening) {
+    if ((size_t)happening->areas[3] * BLOCK > here.spare_bytes)
+        return BUMBAZEEL_BROKEN_CANDIDATE;
+    return happening->what == CLEAR ? clear() : capture(happening->page, happening->areas);
+}
+
+bool embedded_later(const struct happening *happening) {
+    if (here.plan.count >= MOST_HAPPENINGS || (size_t)happening->areas[3] * BLOCK > here.spare_bytes)
+        return false;
+    struct happening *all = realloc(here.plan.happenings, (here.plan.count + 1) * sizeof *all);
+    if (!all)
+        return false;
+    here.plan.happenings = all;
+    all[here.plan.count] = *happening;
+    all[here.plan.count++].before += here.sent;
+    return true;
+}
+
+void embedded_forget(void) { here.plan.count = 0; }
+
+const uint32_t *embedded_areas(void) { return here.plan.areas; }
+
+bool embedded_changed(void) {
+    bool changed = memcmp(&here.told, &here.record, sizeof here.told) != 0;
+    here.told = here.record;
+    return changed;
+}
+
+bool embedded_notice(void) { return here.record.notice; }
+
+size_t embedded_held(uint8_t page, uint8_t header[BLOCK], const uint8_t **blocks) {
+    struct candidate none = no_candidate();
+    struct bumbazeel_fields fields; /* zeros of a bad header */
+    uint32_t words[5];
+    bumbazeel_words(page, 0, 0, 1, 0, 1, words);
+    uint8_t answer = command(&none, words, header, BLOCK);
     if (answer)
-        drive->refusal = bumbazeel_status(answer);
-    return answer == BUMBAZEEL_SUCCESS ? SUCCEEDED : REFUSED;
+        memset(header, 0, BLOCK);
+    bumbazeel_check(page, here.plan.caps & BUMBAZEEL_DA4S, header, BLOCK, &fields);
+    *blocks = page == BUMBAZEEL_HOST_PAGE ? here.host : here.controller;
+    return (size_t)(fields.last[3] > fields.last[2] ? fields.last[3] : fields.last[2]) * BLOCK;
 }
 
 /* The bytes of the largest capture to come. */
@@ -147,7 +213,8 @@ static size_t store_bytes(const struct embedded *plan) {
     return (size_t)most * BLOCK;
 }
 
-struct drive *embedded_open(uint8_t page, const struct embedded *plan) {
+/* A drive before any capture. */
+static void start(uint8_t page, const struct embedded *plan) {
     size_t bytes = store_bytes(plan);
     here.drive = (struct drive){.serial = "EMBEDDED",
                                 .model = "Bumbazeel embedded drive",
@@ -158,17 +225,31 @@ struct drive *embedded_open(uint8_t page, const struct embedded *plan) {
                                 .send = embedded_send};
     here.plan = *plan;
     here.page = page;
-    here.host_bytes = page == BUMBAZEEL_HOST_PAGE ? bytes : 0;
-    here.controller_bytes = page == BUMBAZEEL_CONTROLLER_PAGE ? bytes : 0;
+    here.host_bytes = page != BUMBAZEEL_CONTROLLER_PAGE ? bytes : 0;
+    here.controller_bytes = page != BUMBAZEEL_HOST_PAGE ? bytes : 0;
     here.host = lazy_bytes(here.host_bytes);
     here.controller = lazy_bytes(here.controller_bytes);
     here.spare = lazy_bytes(bytes);
+    here.spare_bytes = bytes;
     uint8_t answer = bumbazeel_fresh(plan->caps, OUI, SCOPE_CONTROLLER, SCOPE_CONTROLLER, &here.record);
     if (answer)
         die("the embedded drive cannot start: %u (%s)", answer, meaning(answer));
     uint8_t generation = plan->empty ? plan->generation : (uint8_t)(plan->generation - 1u); /* the first capture adds one */
     here.record.host_generation = here.record.controller_generation = generation;
+}
+
+struct drive *embedded_open(uint8_t page, const struct embedded *plan) {
+    start(page, plan);
     if (!plan->empty)
-        capture(plan->areas);
+        tell_capture(capture(page, plan->areas), page, plan->areas);
+    return &here.drive;
+}
+
+const struct drive *embedded_open_both(const struct embedded *plan) {
+    start(0, plan);
+    if (!plan->empty) {
+        tell_capture(capture(BUMBAZEEL_CONTROLLER_PAGE, plan->areas), BUMBAZEEL_CONTROLLER_PAGE, plan->areas);
+        tell_capture(capture(BUMBAZEEL_HOST_PAGE, plan->areas), BUMBAZEEL_HOST_PAGE, plan->areas);
+    }
     return &here.drive;
 }

@@ -1,4 +1,4 @@
-/* bumbazeel: collects NVMe telemetry pages, checks saved ones, builds command words. All that matters is decided by the proved library. */
+/* bumbazeel: collects NVMe telemetry pages, checks saved ones, builds command words, serves a drive to rehearse with. All that matters is decided by the proved library. */
 #include "commands.h"
 #include "json.h"
 #include "say.h"
@@ -18,6 +18,7 @@ static const char help[] = "usage: bumbazeel COMMAND [OPTIONS]\n"
                            "  list      list the NVMe drives at hand\n"
                            "  check     show the header of a saved page, and whether the file's length fits\n"
                            "  words     print the words of a Get Log Page\n"
+                           "  serve     serve the embedded drive to hosts, over NVMe/TCP\n"
                            "  help      show a command's options: bumbazeel help COMMAND\n"
                            "\n"
                            "bumbazeel COMMAND -h, --help tells a command's options.\n"
@@ -32,7 +33,7 @@ static const struct {
     const char *name;
     int (*run)(char **words);
 } commands[] = {{"collect", collect_command}, {"status", status_command}, {"list", list_command},
-                {"check", check_command},     {"words", words_command}};
+                {"check", check_command},     {"words", words_command},   {"serve", serve_command}};
 
 /* A closed standard stream would lend its number to the next file that is opened, and what is printed would go there. The root directory
  * is always there, and takes no byte. */
@@ -60,7 +61,7 @@ static int run_command(const char *name, char **words) {
     for (size_t i = 0; i < sizeof commands / sizeof *commands; i++)
         if (strcmp(name, commands[i].name) == 0)
             return commands[i].run(words);
-    die("unknown command '%s': give collect, status, list, check, words or help (bumbazeel --help)", name);
+    die("unknown command '%s': give collect, status, list, check, words, serve or help (bumbazeel --help)", name);
 }
 
 int main(int argc, char **argv) {
@@ -69,7 +70,7 @@ int main(int argc, char **argv) {
     if (asks_for_json(argv))
         say_at_death(json_error);
     if (argc < 2)
-        die("no command: give collect, status, list, check, words or help (bumbazeel --help)");
+        die("no command: give collect, status, list, check, words, serve or help (bumbazeel --help)");
     if (argc == 2 && (is(argv[1], "--help", "-h") || strcmp(argv[1], "help") == 0))
         print_help(help);
     if (argc == 2 && is(argv[1], "--version", "-V"))

@@ -106,10 +106,6 @@ static void open_again(struct under_way *r, uint32_t failed) {
     take(r, true, BLOCK);
 }
 
-static size_t transfer_bytes(const uint32_t words[5]) {
-    return 4 * ((size_t)(words[0] >> 16 | (words[1] & 0xFFFF) << 16) + 1);
-}
-
 static void list(const uint32_t words[5]) {
     printf("%08X %08X %08X %08X %08X\n", (unsigned)words[0], (unsigned)words[1], (unsigned)words[2], (unsigned)words[3],
            (unsigned)words[4]);

@@ -51,6 +51,8 @@ void stop_listen(void) {
 
 int stop_asked(void) { return asked; }
 
+void stop_obeyed(void) { asked = 0; }
+
 void stop_here(void) {
     if (!asked)
         return;

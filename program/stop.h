@@ -12,4 +12,7 @@ void stop_here(void);
 /* The signal that asked for a stop; 0 if none did. */
 int stop_asked(void);
 
+/* The stop is what was meant to end the program: its end does not come by the signal. */
+void stop_obeyed(void);
+
 #endif
