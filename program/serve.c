@@ -305,38 +305,61 @@ static void attend(struct connection *c, short came) {
         answer(c);
 }
 
+/* What is waited for: the connections that there are, and new ones. No more places than files are open, which is all that the system takes. */
+struct watch {
+    struct pollfd places[MOST_CONNECTIONS + 1];
+    struct connection *of[MOST_CONNECTIONS + 1]; /* NULL: new ones */
+    nfds_t count;
+    uint64_t until; /* something is due then */
+};
+
+static void watch_file(struct watch *w, struct connection *c, int file, short events) {
+    w->places[w->count] = (struct pollfd){.fd = file, .events = events};
+    w->of[w->count++] = c;
+}
+
+static void watch_until(struct watch *w, uint64_t then) {
+    if (then < w->until)
+        w->until = then;
+}
+
+static struct watch watch_all(void) {
+    struct watch w = {.until = admin_expire()};
+    close_all_lost();
+    for (struct connection *c = here.connections; c < here.connections + MOST_CONNECTIONS; c++)
+        if (c->socket != FREE) {
+            watch_file(&w, c, c->socket, wanted(c));
+            watch_until(&w, due(c));
+        }
+    if (now_ms() >= here.pause)
+        watch_file(&w, NULL, here.listening, POLLIN);
+    else
+        watch_until(&w, here.pause);
+    return w;
+}
+
 /* Waits until something comes or is due. */
-static void wait_for(struct pollfd *places, uint64_t until) {
-    uint64_t now = now_ms(), left = until > now ? until - now : 0;
+static void wait_for(struct watch *w) {
+    uint64_t now = now_ms(), left = w->until > now ? w->until - now : 0;
     struct timespec most = {.tv_sec = (time_t)(left / 1000), .tv_nsec = (long)(left % 1000) * 1000000};
     sigset_t none;
     sigemptyset(&none); /* signals come here and nowhere else */
-    if (ppoll(places, MOST_CONNECTIONS + 1, until == UINT64_MAX ? NULL : &most, &none) < 0) {
-        if (errno != EINTR)
-            die("cannot wait for hosts: %s", strerror(errno));
-        for (int i = 0; i <= MOST_CONNECTIONS; i++)
-            places[i].revents = 0;
-    }
+    if (ppoll(w->places, w->count, w->until == UINT64_MAX ? NULL : &most, &none) >= 0)
+        return;
+    if (errno != EINTR)
+        die("cannot wait for hosts: %s", strerror(errno));
+    for (nfds_t i = 0; i < w->count; i++)
+        w->places[i].revents = 0;
 }
 
 static void turn(void) {
-    struct pollfd places[MOST_CONNECTIONS + 1];
-    uint64_t until = admin_expire(), now = now_ms();
-    close_all_lost();
-    places[MOST_CONNECTIONS] = (struct pollfd){.fd = now >= here.pause ? here.listening : FREE, .events = POLLIN};
-    until = now < here.pause && here.pause < until ? here.pause : until;
-    for (int i = 0; i < MOST_CONNECTIONS; i++) {
-        const struct connection *c = &here.connections[i];
-        places[i] = (struct pollfd){.fd = c->socket, .events = c->socket == FREE ? 0 : wanted(c)};
-        if (c->socket != FREE && due(c) < until)
-            until = due(c);
-    }
-    wait_for(places, until);
-    for (int i = 0; i < MOST_CONNECTIONS; i++)
-        if (here.connections[i].socket != FREE)
-            attend(&here.connections[i], places[i].revents);
-    if (places[MOST_CONNECTIONS].revents)
-        accept_hosts();
+    struct watch w = watch_all();
+    wait_for(&w);
+    for (nfds_t i = 0; i < w.count; i++)
+        if (w.of[i])
+            attend(w.of[i], w.places[i].revents);
+        else if (w.places[i].revents)
+            accept_hosts();
 }
 
 /* Serves until a stop is asked for. Signals come while it waits and at no other time, so that none is overlooked. */

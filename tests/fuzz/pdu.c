@@ -165,6 +165,13 @@ static void give_connect(uint16_t queue, uint16_t controller) {
     put16(data + 16, controller);
     strcpy((char *)data + 256, NQN);
     strcpy((char *)data + 512, "nqn.2026-11.example.host:fuzz");
+    if (byte() & 1) { /* nearly right */
+        uint8_t place = byte() % 6;
+        static const uint16_t places[6] = {0, 16, 256, 512, 511, 767};
+        data[places[place]] ^= byte();
+    } else if (byte() & 1) {
+        command[byte() % COMMAND_BYTES] ^= byte();
+    }
     give_capsule(command, data, sizeof data);
 }
 
