@@ -2,8 +2,10 @@
 -- Assumes nothing.
 use Prim.Native.Nat.{ℕ, _≤_, _<_}
 use mathlib.Core.Path.{_≡_, refl, sym, ap, _∙_}
+use mathlib.Core.List.{List}
 use mathlib.Core.Bool.{Bool, true, false, not, _&&_}
 use native.Mathlib.Omega.{arith}
+use lib.ListN.{length}
 use lib.Dec.{leb, eqb}
 use borrow.Author.Tests.{leb-true, leb-false, eqb-true, ne-eqb}
 use Rattle.choices.specs.Choice.{pick, pick-cases}
@@ -17,7 +19,7 @@ use Rattle.plans.specs.Phases.{closingBy, endedBy}
 use Rattle.plans.specs.Plans.{setupAnswer, areaLast, fitsRoom, insideBy, withinBy}
 use Rattle.plans.specs.Limits.{plan-limits}
 use Rattle.completions.specs.declared.Seen.{Seen}
-use Rattle.completions.specs.Completions.{showsNone}
+use Rattle.completions.specs.Completions.{showsNone, touched}
 use Rattle.judgement.specs.declared.Ending.{Ending}
 use Rattle.judgement.specs.declared.Ending.the-variants.{Success, BadHeader, NoRoom, UsedUp, Withdrawn, Nothing, BrokeItsWord}
 use Rattle.judgement.specs.declared.Move.{Move}
@@ -27,7 +29,7 @@ use Rattle.turns.specs.Turns.{good}
 use Rattle.collection.specs.declared.Collection.{Collection}
 use Rattle.collection.specs.declared.Decided.{Decided}
 use Rattle.turns.specs.Refusals.{mostCount, firstRefusal, refusalBy}
-use Rattle.collection.specs.Collection.{validState, completionFits, expectedOf, refusalOf, moveOf, madeOf, refusedOf, decideOf, Bounded}
+use Rattle.collection.specs.Collection.{validState, completionFits, expectedOf, lookOf, refusalOf, moveOf, madeOf, refusedOf, decideOf, copyAfter, Bounded}
 
 -- ---- a valid state
 
@@ -97,6 +99,12 @@ pub decide-no : (s : Collection) (ok : Bool) (bytes copy : ℕ) (h : Seen) (n : 
     → n ≡ refusalOf s ok bytes copy → (n ≡ success → ⊥) → r ≡ refusedOf s n → r ≡ decideOf s ok bytes copy h
 unfolding decideOf
 decide-no s ok bytes copy h n r en z er = er ∙ rw (ne-eqb (refusalOf s ok bytes copy) success (λ e. z (en ∙ e)), en)
+
+-- the copy after a step is touched as was decided
+pub settled-is : (s : Collection) (ok : Bool) (d copy : List ℕ) {h : Seen} {x : Decided} → h ≡ lookOf s d → x ≡ decideOf s ok (length d) (length copy) h
+    → touched (x .touch) d copy ≡ copyAfter s ok d copy
+unfolding copyAfter
+settled-is s ok d copy e f = rw (f, e)
 
 -- ---- the move that a completion calls for
 

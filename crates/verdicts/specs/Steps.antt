@@ -5,7 +5,8 @@ use mathlib.Core.Path.{_≡_, _∙_}
 use mathlib.Core.List.{List}
 use mathlib.Core.Bool.{Bool, not, _&&_}
 use lib.Dec.{ltb}
-use Rattle.pages.specs.Pages.{telemetryPage, lastOf, sizeOf, topOf}
+use Rattle.choices.specs.Choice.{pick}
+use Rattle.pages.specs.Pages.{telemetryPage, lastOf, sizeOf, topOf, trimOf, perPage}
 use Rattle.words.specs.declared.Command.{Command}
 use Rattle.records.specs.declared.Record.{Record}
 use Rattle.records.specs.Records.{agreesWith}
@@ -24,3 +25,9 @@ pub command-is : (r : Record) (c : Command) (a : List ℕ) (lent : Lent) {m kept
     → x ≡ commandAnswer r c a lent
 unfolding commandAnswer
 command-is r c a lent em ek el eg ef ec es ex = ex ∙ rw (eg, ef, ec, ek, em, es, el)
+
+-- the last blocks of the page asked for, the captured ones chosen before
+pub last-is : (r : Record) (c : Command) (a : List ℕ) {captured chosen : List ℕ} → captured ≡ trimOf (r .caps) (c .mcda) a → chosen ≡ pick (c .create) captured (r .host .last)
+    → perPage (c .page) chosen (r .controller .last) ≡ lastAfter r c a
+unfolding lastAfter
+last-is r c a e f = rw (f, e)

@@ -2,7 +2,7 @@
 -- Assumes nothing.
 use mathlib.Core.Path.{_∙_}
 use borrow.Author.Needs.{needs}
-use Rattle.verdicts.specs.Verdicts.{lastAfter}
+use Rattle.verdicts.specs.Steps.{last-is}
 use Rattle.verdicts.proofs.last_after.Statement.{statement}
 use Rattle.verdicts.proofs.last_after.Tie as tie
 
@@ -19,8 +19,10 @@ pick-four-requires-2 : tie.Need-pick-four-requires-2
 pick-four-requires-2 c κs = search needs
 
 returns : tie.Need-returns
-unfolding lastAfter
-returns c = c .pick-four2 .ensures ∙ rw (c .before .pick-four .ensures, c .before .before .before .trim .ensures)
+returns c =
+    let captured = c .before .before .before in
+    let a = captured .before .before .before .before .before .before .before .args in
+    c .pick-four2 .ensures ∙ last-is (a .r) (a .c) (a .a) (captured .trim .ensures) (c .before .pick-four .ensures)
 
 pub last-after-spec : {M : Type 1} → statement M
 last-after-spec =

@@ -2,7 +2,8 @@
 -- Assumes nothing.
 use mathlib.Core.Path.{_∙_}
 use borrow.Author.Needs.{needs}
-use Rattle.collection.specs.Collection.{stepOf, copyAfter, lookOf}
+use Rattle.collection.specs.Collection.{stepOf, lookOf}
+use Rattle.collection.specs.Laws.{settled-is}
 use Rattle.collection.proofs.Collection.step.Statement.{statement}
 use Rattle.collection.proofs.Collection.step.Tie as tie
 
@@ -19,8 +20,13 @@ same-length : tie.Need-same-length
 same-length c = search needs
 
 returns : tie.Need-returns
-unfolding stepOf copyAfter lookOf
-returns c = (rw (c .before .before .before .before .before .decide .ensures, c .before .before .before .before .before .before .look .ensures), c .before .before .before .settle .ensures ∙ rw (c .before .before .before .before .before .decide .ensures, c .before .before .before .before .before .before .look .ensures))
+unfolding stepOf lookOf
+returns c =
+    let decided = c .before .before .before .before .before in
+    let a = decided .before .before .before .before .before .args in (
+      rw (decided .decide .ensures, decided .before .look .ensures),
+      c .before .before .before .settle .ensures ∙ settled-is (a .self) (a .ok) (a .«data» .now) (a .copy .now) (decided .before .look .ensures) (decided .decide .ensures),
+    )
 
 pub step-spec : {M : Type 1} → statement M
 step-spec = tie.close (tie.spec look-requires decide-requires settle-requires same-length returns)
