@@ -121,7 +121,6 @@ setup-gives p =
     (λ e. rw (setup-taken p e))
     (λ e. rw (setup-refused p e) (refused-gives p))
 
-
 -- an ending
 pub ending-gives : (e : Ending) → among (success ∷ badHeader ∷ noRoom ∷ attemptsUsedUp ∷ withdrawn ∷ nothing ∷ brokeItsWord ∷ []) (numberOf e) ≡ true
 ending-gives (Success unread) = refl
