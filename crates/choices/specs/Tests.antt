@@ -41,11 +41,6 @@ pub and-right : (a b : Bool) → a && b ≡ true → b ≡ true
 and-right true b e = e
 and-right false b e = clash e refl
 
--- what is not not so is so
-pub no-not : (t : Bool) → not t ≡ false → t ≡ true
-no-not true e = refl
-no-not false e = clash {t = true} refl e
-
 pub or-cases : {A : Type 0} (a b : Bool) → a || b ≡ true → (a ≡ true → A) → (b ≡ true → A) → A
 or-cases true b e f g = f refl
 or-cases false b e f g = g e

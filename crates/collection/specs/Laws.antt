@@ -7,9 +7,9 @@ use mathlib.Core.Bool.{Bool, true, false, not, _&&_}
 use native.Mathlib.Omega.{arith}
 use lib.ListN.{length}
 use lib.Dec.{leb, eqb}
-use borrow.Author.Tests.{leb-true, leb-false, eqb-true, ne-eqb}
+use borrow.Author.Tests.{leb-true, leb-false, eqb-true, ne-eqb, not-true, not-false}
 use Rattle.choices.specs.Choice.{pick, pick-cases}
-use Rattle.choices.specs.Tests.{each, and-left, and-right, no-not}
+use Rattle.choices.specs.Tests.{each, and-left, and-right}
 use Rattle.answers.specs.Answers.{success}
 use Rattle.pages.specs.Pages.{controllerPage}
 use Rattle.header.specs.Header.{faultless}
@@ -108,10 +108,6 @@ settled-is s ok d copy e f = rw (f, e)
 
 -- ---- the move that a completion calls for
 
-not-so : (t : Bool) → not t ≡ true → t ≡ false
-not-so true e = sym e
-not-so false e = refl
-
 -- all moves that a completion can call for in a state, each with what holds then
 pub record Moves (P : Move → Type 0) (s : Collection) (ok : Bool) (h : Seen) : Type 0 where
   pub fail : (e : Ending) → good e ≡ false → P (End e false)
@@ -139,7 +135,7 @@ module _ (P : Move → Type 0) (s : Collection) (ok : Bool) (h : Seen) (m : Move
       (λ q. let a : after ≡ false = rw q at b in m .stand (e ∙ ap Close a) (rw q at w))
       (λ q. pick-cases P (leb (s .plan .attempts) (s .attempt .number)) (λ u. m .fail UsedUp refl)
       (λ u. let l = leb-false (s .plan .attempts) (s .attempt .number) u in
-      pick-cases P (not (fitsRoom (s .plan) (h .last))) (λ r. m .large f l) (λ r. m .again f l (no-not _ r))))))
+      pick-cases P (not (fitsRoom (s .plan) (h .last))) (λ r. m .large f l) (λ r. m .again f l (not-false _ r))))))
 
   by-phase : (f : Phase) → s .phase ≡ f → P (judgeBy f (testsOf (s .plan) (s .attempt) ok h))
   unfolding judgeBy firstOrder laterOrder testsOf
@@ -147,13 +143,13 @@ module _ (P : Move → Type 0) (s : Collection) (ok : Bool) (h : Seen) (m : Move
       pick-cases P (not ok) (λ k. m .fail BrokeItsWord refl)
       (λ k. pick-cases P (not (faultless (h .fault))) (λ g. m .fail (BadHeader (h .fault)) refl)
       (λ g. pick-cases P (showsNone (s .plan) h) (λ n. m .fail Nothing refl)
-      (λ n. pick-cases P (not (fitsRoom (s .plan) (h .last))) (λ r. m .fail NoRoom refl) (λ r. m .first e (no-not _ r)))))
-  by-phase (Chunk at) e = pick-cases P (not ok) (λ k. m .skip at e (not-so ok k)) (λ k. m .more at e (no-not _ k))
+      (λ n. pick-cases P (not (fitsRoom (s .plan) (h .last))) (λ r. m .fail NoRoom refl) (λ r. m .first e (not-false _ r)))))
+  by-phase (Chunk at) e = pick-cases P (not ok) (λ k. m .skip at e (not-true ok k)) (λ k. m .more at e (not-false _ k))
   by-phase (Close after) e =
       pick-cases P (not ok) (λ k. m .fail BrokeItsWord refl)
       (λ k. pick-cases P (not (faultless (h .fault))) (λ g. m .fail (BadHeader (h .fault)) refl)
       (λ g. pick-cases P (showsNone (s .plan) h) (λ n. m .fail Withdrawn refl) (λ n. by-match after e)))
-  by-phase Ack e = pick-cases P (not ok) (λ k. m .fail BrokeItsWord refl) (λ k. m .done e (no-not _ k))
+  by-phase Ack e = pick-cases P (not ok) (λ k. m .fail BrokeItsWord refl) (λ k. m .done e (not-false _ k))
   by-phase Ended e = m .fail BrokeItsWord refl
 
   pub move-cases : P (moveOf s ok h)

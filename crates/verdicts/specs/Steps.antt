@@ -1,4 +1,4 @@
--- The answer to a command from what its calls give, in variables: `cc` is quick here and meets a bound of its own in the function's proof.
+-- What the code's calls come to, one after another.
 -- Assumes nothing.
 use Prim.Native.Nat.{ℕ}
 use mathlib.Core.Path.{_≡_, _∙_}
