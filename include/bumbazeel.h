@@ -163,7 +163,8 @@ uint8_t bumbazeel_words(uint8_t page, uint8_t create, uint8_t mcda, uint8_t rae,
 uint8_t bumbazeel_setup(uint8_t page, uint8_t create, uint8_t area, uint8_t caps, uint32_t chunk, uint32_t attempts, size_t room,
                         struct bumbazeel_state *state, struct bumbazeel_next *next);
 
-/* Takes the completion of the awaited command: whether it succeeded, and its data (none with a refusal). Answers next->kind.
+/* Takes the completion of the awaited command: whether it succeeded, and its data (none with a refusal). A closing header stands for the
+ * copy if its generation and all four last blocks are those of the header that opened the attempt. Answers next->kind.
  * BUMBAZEEL_SEND: the next command is awaited, and a chunk that came was written to its place in the copy. BUMBAZEEL_ENDED: with success
  * the copy holds the wanted area and zeros after it, else zeros alone. BUMBAZEEL_REFUSED: 14, 13 or 15; state and copy are as they
  * were. *next is always written. */
@@ -189,7 +190,12 @@ uint8_t bumbazeel_capture(struct bumbazeel_record *record, const uint8_t *host_s
                           size_t controller_bytes, const uint32_t last[4], const uint8_t *candidate, size_t candidate_bytes,
                           const uint8_t *reason, size_t reason_bytes);
 
-/* What a command and a capture are lent, in one place. A command reads the candidate at a create on 07h alone. */
+/* Drops the host's data, as a Firmware Commit or power on does: 0 or 4. Only 0 changes the record: the four last blocks and the reason of
+ * 07h are zero then, its generation stays, and nothing of 08h is touched. Both stores stay as they are. */
+uint8_t bumbazeel_drop(struct bumbazeel_record *record, const uint8_t *host_store, size_t host_bytes, const uint8_t *controller_store,
+                       size_t controller_bytes);
+
+/* What a command, a capture and a drop are lent, in one place. A command reads the candidate at a create on 07h alone. */
 struct bumbazeel_lent {
     struct bumbazeel_record *record;
     uint8_t *host_store;
@@ -203,7 +209,7 @@ struct bumbazeel_lent {
     size_t reason_bytes;
 };
 
-/* bumbazeel_command and bumbazeel_capture on what is lent. */
+/* bumbazeel_command, bumbazeel_capture and bumbazeel_drop on what is lent. */
 static inline uint8_t bumbazeel_command_on(const struct bumbazeel_lent *lent, const uint32_t words[5], uint8_t *buffer, size_t buffer_bytes,
                                            uint8_t *identifier_class) {
     return bumbazeel_command(lent->record, lent->host_store, lent->host_bytes, lent->controller_store, lent->controller_bytes, lent->last,
@@ -214,6 +220,10 @@ static inline uint8_t bumbazeel_command_on(const struct bumbazeel_lent *lent, co
 static inline uint8_t bumbazeel_capture_on(const struct bumbazeel_lent *lent) {
     return bumbazeel_capture(lent->record, lent->host_store, lent->host_bytes, lent->controller_store, lent->controller_bytes, lent->last,
                              lent->candidate, lent->candidate_bytes, lent->reason, lent->reason_bytes);
+}
+
+static inline uint8_t bumbazeel_drop_on(const struct bumbazeel_lent *lent) {
+    return bumbazeel_drop(lent->record, lent->host_store, lent->host_bytes, lent->controller_store, lent->controller_bytes);
 }
 
 /* ---- numbers */

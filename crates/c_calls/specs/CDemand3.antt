@@ -59,9 +59,9 @@ module _ (page create area caps chunk attempts room : ℕ) (copy : List ℕ) (b 
     -- struct bumbazeel_record is 300 bytes
     pub long : length (b .own) ≡ 300
     pub bytes : Bytes (b .own)
-    -- at most k captures of the page after the first command, and more than k attempts
+    -- at most k captures and drops of the page after the first command, both together, and more than k attempts
     pub more : k < attempts
-    pub captures : last .counts .captures ≤ k
+    pub changes : last .counts .changes ≤ k
     -- none of the program's own commands was answered 3, 4 or 5
     pub spared : last .counts .lentRefusals ≡ 0
 
@@ -132,7 +132,7 @@ module _ (page create area caps chunk attempts room : ℕ) (copy : List ℕ) (b 
           room = a .whole-copy;
           typed = fit .good .typed;
           attempts = a .more;
-          captures = subst (λ (x : Counters). x .captures ≤ k) (r .counts) (a .captures);
+          changes = subst (λ (x : Counters). x .changes ≤ k) (r .counts) (a .changes);
           spared = ap (λ (x : Counters). x .lentRefusals) (sym (r .counts)) ∙ a .spared;
         })
 
@@ -198,7 +198,7 @@ module _ (page create area caps chunk attempts room : ℕ) (copy : List ℕ) (b 
     has-ended : Finished (controllerSource page) s → kindIn (last .next) ≡ ending
     has-ended f = kind-is ∙ ap kindOf (f .said)
 
-    -- Setup, command, capture and step on bytes, each lent the bytes that the last call left, are a run, and demand 3 holds of it.
+    -- Setup, command, capture, drop and step on bytes, each lent the bytes that the last call left, are a run, and demand 3 holds of it.
     pub c-demand3 : CDemand3 k
     c-demand3 = record {
       counted = count-is ∙ d .counted ∙ r .made ∙ ap (λ (n : ℕ). last .made + n) (awaited (s .said) ∙ ap (λ (n : ℕ). one (eqb n send)) (sym kind-is));

@@ -1,6 +1,6 @@
 -- A C program's loop over the functions of include/bumbazeel.h: `bumbazeel_setup`, then turn after turn `bumbazeel_command` with the words of `next` and
--- `bumbazeel_step` with what came of it, while other hosts' commands and captures reach the same controller in between. Every call is lent the bytes
--- that the last one left.
+-- `bumbazeel_step` with what came of it, while other hosts' commands, captures and drops reach the same controller in between. Every call is lent the
+-- bytes that the last one left.
 -- Assumes nothing.
 use Prim.Native.Nat.{ℕ, _+_, _-_, _*_}
 use mathlib.Core.List.{List, [], _∷_}
@@ -16,16 +16,16 @@ use Rattle.words.specs.Words.{longBytes, readOf}
 use Rattle.plans.specs.declared.Plan.{Plan}
 use Rattle.collection.specs.Collection.{setupOf}
 use Rattle.controller.specs.Controller.{Candidate}
-use Rattle.sources.specs.Source.{Turn, Counters, captured, heard, forLent}
-use Rattle.demand3.specs.Bench.{Event, Sent, Taken, Loan, controllerSource}
+use Rattle.sources.specs.Source.{Turn, Counters, changed, heard, forLent}
+use Rattle.demand3.specs.Bench.{Event, Sent, Taken, Dropped, Loan, controllerSource}
 use Rattle.state_layout.specs.Layout.{stateBytes}
 use Rattle.next_layout.specs.Layout.{send, nextBytes}
 use Rattle.host_boundary.specs.Boundary.{StepAnswer, stepAt}
-use Rattle.controller_boundary.specs.Boundary.{wordsOf, CommandAnswer, commandAt, CaptureAnswer, captureAt}
+use Rattle.controller_boundary.specs.Boundary.{wordsOf, CommandAnswer, commandAt, CaptureAnswer, captureAt, DropAnswer, dropAt}
 
 -- ---- the controller
 
--- what `bumbazeel_command` and `bumbazeel_capture` are lent of it: struct bumbazeel_record, host store and controller store
+-- what `bumbazeel_command`, `bumbazeel_capture` and `bumbazeel_drop` are lent of it: struct bumbazeel_record, host store and controller store
 pub record Controller : Type 0 where
   pub own : List ℕ
   pub host : List ℕ
@@ -39,12 +39,15 @@ lastIn page area b = valueAt 4 (perPage page 12 28 + 4 * (area - 1)) (b .own)
 abbrev pub areaIn : ℕ → ℕ → Controller → List ℕ
 areaIn page area b = take (block * lastIn page area b) (perPage page (b .host) (b .controller))
 
--- the two calls
+-- the three calls
 abbrev pub command : Controller → Candidate → Words → List ℕ → CommandAnswer
 command b candidate words buf = commandAt (b .own) (b .host) (b .controller) candidate words buf
 
 abbrev pub capture : Controller → Candidate → CaptureAnswer
 capture b candidate = captureAt (b .own) (b .host) (b .controller) candidate
+
+abbrev pub drop : Controller → DropAnswer
+drop b = dropAt (b .own) (b .host) (b .controller)
 
 -- and what they leave of it
 abbrev pub commanded : Controller → CommandAnswer → Controller
@@ -53,21 +56,32 @@ commanded b x = record { own = x .own; host = x .host; controller = b .controlle
 abbrev pub taken : Controller → CaptureAnswer → Controller
 taken b x = record { own = x .own; host = b .host; controller = x .controller }
 
--- what may happen to it between two commands of the program: a command of any words, or a capture
+abbrev pub dropped : Controller → DropAnswer → Controller
+dropped b x = record { own = x .own; host = b .host; controller = b .controller }
+
+-- what may happen to it between two commands of the program: a command of any words, a capture, or a drop
 unfoldable pub after : Event → Controller → Controller
 after (Sent words candidate buf) b = commanded b (command b candidate words buf)
 after (Taken candidate) b = taken b (capture b candidate)
+after Dropped b = dropped b (drop b)
 
 -- one where that captured the page, by its answer: a create on 07h, or a capture on 08h, that was answered 0
 unfoldable pub capturesBy : ℕ → Event → Controller → ℕ
 capturesBy page (Sent words candidate buf) b = one (eqb page hostPage && readOf true words .create && eqb (command b candidate words buf .answer) success)
 capturesBy page (Taken candidate) b = one (eqb page controllerPage && eqb (capture b candidate .answer) success)
+capturesBy page Dropped b = 0
+
+-- one where it was a drop of 07h that was answered 0
+unfoldable pub dropsBy : ℕ → Event → Controller → ℕ
+dropsBy page (Sent words candidate buf) b = 0
+dropsBy page (Taken candidate) b = 0
+dropsBy page Dropped b = one (eqb page hostPage && eqb (drop b .answer) success)
 
 -- ---- the program
 
 -- what it holds: the controller's bytes, struct bumbazeel_state, struct bumbazeel_next and the copy. And what one who watches its calls can tell: how many
--- times it called `bumbazeel_command`, the data of the headers that were judged, the last one first, the controller's bytes after that one, the captures since
--- then and since the first command, and its answers 3, 4 and 5
+-- times it called `bumbazeel_command`, the data of the headers that were judged, the last one first, the controller's bytes after that one, the captures and
+-- drops since then and since the first command, and its answers 3, 4 and 5
 pub record Program : Type 0 where
   pub controller : Controller
   pub state : List ℕ
@@ -125,7 +139,7 @@ module _ (p : Plan) where
     made = c .made;
     headers = c .headers;
     checked = c .checked;
-    counts = captured (capturesBy (p .page) e (c .controller)) (c .counts);
+    counts = changed (capturesBy (p .page) e (c .controller)) (dropsBy (p .page) e (c .controller)) (c .counts);
   }
 
   -- and one thing after another
@@ -152,7 +166,7 @@ module _ (p : Plan) where
     made = 0;
     headers = [];
     checked = b;
-    counts = record { since = 0; captures = 0; lentRefusals = 0 };
+    counts = record { since = 0; drops = 0; changes = 0; lentRefusals = 0 };
   }
 
   -- the whole loop: setup, the first command with what it is lent, and then the turns

@@ -9,7 +9,7 @@ use lib.ListN.{getD, replicate}
 use Rattle.choices.specs.Tests.{holds}
 use Rattle.copies.specs.Parts.{zeros, putAt}
 use Rattle.littleendian.specs.Numbers.{valueAt}
-use Rattle.pages.specs.Pages.{lastOk, greatestOf, blocksOf, sizeOf, topOf, trimmedTo, trimOf}
+use Rattle.pages.specs.Pages.{lastOk, sameLast, greatestOf, blocksOf, sizeOf, topOf, trimmedTo, trimOf}
 use Rattle.words.specs.Words.{taken, builtOf}
 use Rattle.header.specs.Header.{headerOf, faultOf, checkOf}
 use Rattle.records.specs.Records.{identityOk, storeOk, controllerOk, agreesWith, hostFields, controllerFields, fieldsFor, freshOf}
@@ -31,7 +31,7 @@ use Rattle.record_layout.specs.Layout.{recordBytes, recordAt, recordIntact}
 use Rattle.next_layout.specs.Layout.{ending, nextParts, nextBytes}
 use Rattle.host_boundary.specs.Boundary.{planOf, stepAt}
 use Rattle.controller_boundary.specs.Boundary.{identityOf, freshOk, freshBytes, commandAt}
-use Rattle.c_calls.specs.Calls.{Controller, after, capturesBy, judgesIn, Program, kindIn, own, happens, happen, turn, turns, begins, program}
+use Rattle.c_calls.specs.Calls.{Controller, after, capturesBy, dropsBy, judgesIn, Program, kindIn, own, happens, happen, turn, turns, begins, program}
 use Rattle.c_calls.specs.Record.{fresh-long, fresh-bytes}
 use Rattle.c_calls.specs.CDemand3.{CAsked}
 
@@ -60,7 +60,7 @@ abbrev last : Program
 last = program (planOf 7 1 1 3 1 2 1024) (replicate 1024 9) controller loan moves
 
 pub asked : CAsked 7 1 1 3 1 2 1024 (replicate 1024 9) controller loan moves 1
-unfolding program turns turn happen happens own begins after capturesBy judgesIn stepAt stateBytes stateAt stateIntact phaseOf nextParts nextBytes commandAt recordBytes recordAt recordIntact capsOf freshOk freshBytes setupOf setupAnswer holds stepOf decideOf refusalOf validState withinBy fitsRoom completionFits expectedOf lookOf lookBy seenOf checkOf faultOf lastOk generationOf moveOf judgeBy testsOf firstOrder matchOrder laterOrder turnBy turnOf actOf awaitedOf wordsBy builtOf taken phaseAt copyAfter touched putAt commandOf answered commandAnswer agreesWith storeOk controllerOk identityOk greatestOf fieldBad lastAfter candidateOk sizeOf blocksOf topOf trimmedTo trimOf before afterwards sentOf pageOf pageBytes windowOf headerOf hostFields controllerFields fieldsFor freshOf hostCaptured chunkBlocks mostChunks
+unfolding program turns turn happen happens own begins after capturesBy dropsBy judgesIn stepAt stateBytes stateAt stateIntact phaseOf nextParts nextBytes commandAt recordBytes recordAt recordIntact capsOf freshOk freshBytes setupOf setupAnswer holds stepOf decideOf refusalOf validState withinBy fitsRoom completionFits expectedOf lookOf lookBy seenOf checkOf faultOf lastOk sameLast generationOf moveOf judgeBy testsOf firstOrder matchOrder laterOrder turnBy turnOf actOf awaitedOf wordsBy builtOf taken phaseAt copyAfter touched putAt commandOf answered commandAnswer agreesWith storeOk controllerOk identityOk greatestOf fieldBad lastAfter candidateOk sizeOf blocksOf topOf trimmedTo trimOf before afterwards sentOf pageOf pageBytes windowOf headerOf hostFields controllerFields fieldsFor freshOf hostCaptured chunkBlocks mostChunks
 asked = record {
   sends = refl;
   same-caps = refl;
@@ -68,12 +68,12 @@ asked = record {
   long = fresh-long 3 (identityOf 0 1 1);
   bytes = fresh-bytes 3 (identityOf 0 1 1);
   more = omega arith;
-  captures = omega arith;
+  changes = omega arith;
   spared = refl;
 }
 
 -- BUMBAZEEL_ENDED with answer 0 after five commands, as many as the bound allows; the copy is the other host's block, and then zeros
 pub example : (kindIn (last .next) ≡ ending) × (getD (last .next) 1 0 ≡ 0) × (valueAt 8 24 (last .next) ≡ 5) × (last .copy ≡ replicate 512 6 ++ zeros 512)
     × (mostCommands (planOf 7 1 1 3 1 2 1024) 1 (mostChunks (planOf 7 1 1 3 1 2 1024) (last .headers)) ≡ 5)
-unfolding program turns turn happen happens own begins after capturesBy judgesIn stepAt stateBytes stateAt stateIntact phaseOf nextParts nextBytes commandAt recordBytes recordAt recordIntact capsOf freshOk freshBytes setupOf setupAnswer holds stepOf decideOf refusalOf validState withinBy fitsRoom completionFits expectedOf lookOf lookBy seenOf checkOf faultOf lastOk generationOf moveOf judgeBy testsOf firstOrder matchOrder laterOrder turnBy turnOf actOf awaitedOf wordsBy builtOf taken phaseAt copyAfter touched putAt commandOf answered commandAnswer agreesWith storeOk controllerOk identityOk greatestOf fieldBad lastAfter candidateOk sizeOf blocksOf topOf trimmedTo trimOf before afterwards sentOf pageOf pageBytes windowOf headerOf hostFields controllerFields fieldsFor freshOf hostCaptured chunkBlocks mostChunks
+unfolding program turns turn happen happens own begins after capturesBy dropsBy judgesIn stepAt stateBytes stateAt stateIntact phaseOf nextParts nextBytes commandAt recordBytes recordAt recordIntact capsOf freshOk freshBytes setupOf setupAnswer holds stepOf decideOf refusalOf validState withinBy fitsRoom completionFits expectedOf lookOf lookBy seenOf checkOf faultOf lastOk sameLast generationOf moveOf judgeBy testsOf firstOrder matchOrder laterOrder turnBy turnOf actOf awaitedOf wordsBy builtOf taken phaseAt copyAfter touched putAt commandOf answered commandAnswer agreesWith storeOk controllerOk identityOk greatestOf fieldBad lastAfter candidateOk sizeOf blocksOf topOf trimmedTo trimOf before afterwards sentOf pageOf pageBytes windowOf headerOf hostFields controllerFields fieldsFor freshOf hostCaptured chunkBlocks mostChunks
 example = (refl, refl, refl, refl, refl)

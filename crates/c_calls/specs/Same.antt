@@ -27,12 +27,12 @@ use Rattle.collection.specs.declared.Stepped.{Stepped}
 use Rattle.collection.specs.Collection.{setupOf, stepOf, copyAfter}
 use Rattle.collection.specs.Steps.{setup-taken}
 use Rattle.verdicts.specs.Verdicts.{captureAnswer}
-use Rattle.controller.specs.Controller.{World, world, Candidate, Outcome, hostCaptured, controllerCaptured, lentBy, commandOf, captureAnswered, captureOf}
-use Rattle.controller.specs.Laws.{asked, command-frame}
+use Rattle.controller.specs.Controller.{World, world, Candidate, Outcome, hostCaptured, controllerCaptured, lentBy, commandOf, captureAnswered, captureOf, dropOf}
+use Rattle.controller.specs.Laws.{asked, command-frame, drop-frame}
 use Rattle.runs.specs.Run.{given}
 use Rattle.runs.specs.Counted.{step-counts}
-use Rattle.sources.specs.Source.{Source, ours, Done, Turn, Stand, Counters, captured, heard, forLent, fine, dataOf, happens as runHappens, happen as runHappen, hears, turnBy, run, begun, collected}
-use Rattle.demand3.specs.Bench.{Event, Sent, Taken, Loan, actOf, capturesOf, ownOf, controllerSource}
+use Rattle.sources.specs.Source.{Source, ours, Done, Turn, Stand, Counters, changed, heard, forLent, fine, dataOf, happens as runHappens, happen as runHappen, hears, turnBy, run, begun, collected}
+use Rattle.demand3.specs.Bench.{Event, Sent, Taken, Dropped, Loan, actOf, capturesOf, dropsOf, ownOf, controllerSource}
 use Rattle.demand3.specs.Shown.{Good}
 use Rattle.demand3.specs.Events.{act-good}
 use Rattle.demand3.specs.Demand3.{final}
@@ -42,11 +42,11 @@ use Rattle.record_layout.specs.Layout.{recordAt, recordIntact}
 use Rattle.next_layout.specs.Layout.{kindOf, nextBytes}
 use Rattle.host_boundary.specs.Boundary.{stepAt}
 use Rattle.host_boundary.specs.Laws.{step-intact}
-use Rattle.controller_boundary.specs.Boundary.{CommandAnswer, commandAt, captureAt}
-use Rattle.controller_boundary.specs.Laws.{command-intact, capture-intact}
-use Rattle.c_calls.specs.Calls.{Controller, command, capture, commanded, after, capturesBy, Program, kindIn, wordsIn, judgesIn, dataIn, steps, own, happens, happen, turn, turns, begins, program}
+use Rattle.controller_boundary.specs.Boundary.{CommandAnswer, commandAt, captureAt, dropAt}
+use Rattle.controller_boundary.specs.Laws.{command-intact, capture-intact, drop-intact}
+use Rattle.c_calls.specs.Calls.{Controller, command, capture, drop, commanded, after, capturesBy, dropsBy, Program, kindIn, wordsIn, judgesIn, dataIn, steps, own, happens, happen, turn, turns, begins, program}
 use Rattle.c_calls.specs.State.{step-typed, taken-typed, chained, step-copy, step-follows}
-use Rattle.c_calls.specs.Record.{command-chained, capture-chained}
+use Rattle.c_calls.specs.Record.{command-chained, capture-chained, drop-chained}
 use Rattle.c_calls.specs.Next.{Small, wordsSaid, step-small, setup-small, words-back, kind-back}
 
 -- ---- the controller
@@ -107,24 +107,32 @@ module _ (b : Controller) (i : recordIntact (b .own) ≡ true) (candidate : Cand
       pick-cases (λ (z : Outcome). b .host ≡ z .world .host) (eqb (captureAnswer (worldAt b .own) (candidate .last) (lentBy (worldAt b) candidate [])) success)
       (λ e. refl) (λ e. refl)
 
+drop-answers : (b : Controller) → recordIntact (b .own) ≡ true → drop b .answer ≡ dropOf (worldAt b) .answer
+unfolding dropAt
+drop-answers b i = rw i
+
 after-intact : (e : Event) (b : Controller) → recordIntact (b .own) ≡ true → recordIntact (after e b .own) ≡ true
 unfolding after
 after-intact (Sent words candidate buf) b i = command-intact (b .own) (b .host) (b .controller) candidate words buf i
 after-intact (Taken candidate) b i = capture-intact (b .own) (b .host) (b .controller) candidate i
+after-intact Dropped b i = drop-intact (b .own) (b .host) (b .controller) i
 
--- A command or a capture on a controller's bytes leaves the bytes of the controller that it leaves.
+-- A command, a capture or a drop on a controller's bytes leaves the bytes of the controller that it leaves.
 pub after-world : (p : Plan) (e : Event) (b : Controller) → Fit p b → worldAt (after e b) ≡ actOf e (worldAt b)
 unfolding after actOf
 after-world p (Sent words candidate buf) b f =
     world-is (commandOf (worldAt b) candidate words buf .world)
-    (command-chained (b .own) (b .host) (b .controller) candidate (f .good .typed) words buf (f .intact))
+    (command-chained (b .own) (b .host) (b .controller) (f .good .typed) candidate words buf (f .intact))
     (command-stores b (f .intact) candidate words buf)
     (command-spares b (f .intact) candidate words buf)
 after-world p (Taken candidate) b f =
     world-is (captureOf (worldAt b) candidate .world)
-    (capture-chained (b .own) (b .host) (b .controller) candidate (f .good .typed) (f .intact))
+    (capture-chained (b .own) (b .host) (b .controller) (f .good .typed) candidate (f .intact))
     (capture-spares b (f .intact) candidate)
     (capture-stores b (f .intact) candidate)
+after-world p Dropped b f =
+    let frame = drop-frame (worldAt b) in
+    world-is (dropOf (worldAt b) .world) (drop-chained (b .own) (b .host) (b .controller) (f .good .typed) (f .intact)) (sym (frame .0)) (sym (frame .1))
 
 after-fit : (p : Plan) (e : Event) (b : Controller) → Fit p b → Fit p (after e b)
 after-fit p e b f = record {
@@ -132,12 +140,19 @@ after-fit p e b f = record {
   good = subst (Good p) (sym (after-world p e b f)) (act-good p e (worldAt b) (f .good));
 }
 
--- and is a capture by its answer just where it is one
+-- and is a capture, or a drop, by its answer just where it is one
 captures-same : (page : ℕ) (e : Event) (b : Controller) → recordIntact (b .own) ≡ true → capturesBy page e b ≡ capturesOf page e (worldAt b)
 unfolding capturesBy capturesOf
 captures-same page (Sent words candidate buf) b i =
     ap (λ (n : ℕ). one (eqb page hostPage && readOf true words .create && eqb n success)) (command-answers b i candidate words buf)
 captures-same page (Taken candidate) b i = ap (λ (n : ℕ). one (eqb page controllerPage && eqb n success)) (capture-answers b i candidate)
+captures-same page Dropped b i = refl
+
+drops-same : (page : ℕ) (e : Event) (b : Controller) → recordIntact (b .own) ≡ true → dropsBy page e b ≡ dropsOf page e (worldAt b)
+unfolding dropsBy dropsOf
+drops-same page (Sent words candidate buf) b i = refl
+drops-same page (Taken candidate) b i = refl
+drops-same page Dropped b i = ap (λ (n : ℕ). one (eqb page hostPage && eqb n success)) (drop-answers b i)
 
 -- ---- small equations
 
@@ -163,8 +178,8 @@ step-is p q r s = rw (p, q, r, s)
 copy-is : {x y : Collection} {t u : Bool} {d e m n : List ℕ} → x ≡ y → t ≡ u → d ≡ e → m ≡ n → copyAfter x t d m ≡ copyAfter y u e n
 copy-is p q r s = rw (p, q, r, s)
 
-captured-is : {m n : ℕ} {a b : Counters} → m ≡ n → a ≡ b → captured m a ≡ captured n b
-captured-is e f = rw (e, f)
+changed-is : {i j m n : ℕ} {a b : Counters} → i ≡ j → m ≡ n → a ≡ b → changed i m a ≡ changed j n b
+changed-is d e f = rw (d, e, f)
 
 heard-is : {j k : Bool} {m n : ℕ} {a b : Counters} → j ≡ k → m ≡ n → a ≡ b → heard j (forLent m) a ≡ heard k (forLent n) b
 heard-is e f g = rw (e, f, g)
@@ -229,7 +244,9 @@ module _ (p : Plan) (e : setupAnswer p ≡ success) where
     made = r .made;
     checked-fit = r .checked-fit;
     checked = r .checked;
-    counts = captured-is (captures-same (p .page) v (c .controller) (r .fit .intact) ∙ ap (capturesOf (p .page) v) (r .source)) (r .counts);
+    counts =
+        changed-is (captures-same (p .page) v (c .controller) (r .fit .intact) ∙ ap (capturesOf (p .page) v) (r .source))
+        (drops-same (p .page) v (c .controller) (r .fit .intact) ∙ ap (dropsOf (p .page) v) (r .source)) (r .counts);
     headers = r .headers;
   }
 

@@ -1,4 +1,4 @@
--- Document 01, "Captures": what a capture stores of a candidate, and what an acknowledgement clears.
+-- Document 01, "Captures": what a capture stores of a candidate, and what an acknowledgement clears. Document 02, Q-1: what a drop does.
 -- Assumes nothing.
 use Prim.Native.Nat.{ℕ, _+_, _*_, _%_}
 use mathlib.Core.List.{List}
@@ -45,4 +45,13 @@ clearedOf r = record {
   identity = r .identity;
   host = r .host;
   controller = record { last = zeros 4; generation = r .controller .generation; tcda = 0; notice = false; reason = r .controller .reason };
+}
+
+-- the record with the four last blocks and the reason of 07h at zero; the generation stays, and so does 08h
+abbrev pub droppedOf : Record → Record
+droppedOf r = record {
+  caps = r .caps;
+  identity = r .identity;
+  host = record { last = zeros 4; generation = r .host .generation; reason = zeros 128 };
+  controller = r .controller;
 }

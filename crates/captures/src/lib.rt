@@ -1,4 +1,4 @@
-// What a capture keeps of a candidate, in its page's store and in the record, and what an acknowledgement clears.
+// What a capture keeps of a candidate, in its page's store and in the record, what an acknowledgement clears, and what a drop does.
 //
 // It rests on choices, copies, pages and records. It promises the record and the store afterwards, whatever is lent
 // (specs/Captures.antt); whether a candidate may be captured is judged before (verdicts).
@@ -8,7 +8,7 @@ use records::HostPage;
 use records::Record;
 ghost use mathlib.Core.Path.{_≡_};
 ghost use Rattle.pages.specs.Pages.{lastOf, topOf, trimOf};
-ghost use Rattle.captures.specs.Captures.{reasonOf, keptIn, hostTaken, controllerTaken, clearedOf};
+ghost use Rattle.captures.specs.Captures.{reasonOf, keptIn, hostTaken, controllerTaken, clearedOf, droppedOf};
 
 // What the record notes of a candidate.
 struct Noted {
@@ -137,6 +137,27 @@ pub fn cleared(r: Record) -> Record
         tcda: 0,
         notice: false,
         reason,
+    };
+    Record {
+        caps,
+        identity,
+        host,
+        controller,
+    }
+}
+
+// A drop of the host's data, as a Firmware Commit or power on makes it: the generation stays, and nothing of 08h is touched.
+pub fn dropped(r: Record) -> Record
+    ensures { λ x. ⌜ x ≡ droppedOf r ⌝ }
+{
+    let caps = r.caps;
+    let identity = r.identity;
+    let held = r.host;
+    let controller = r.controller;
+    let host = HostPage {
+        last: [0; 4],
+        generation: held.generation,
+        reason: [0; 128],
     };
     Record {
         caps,

@@ -1,12 +1,13 @@
--- What a command and a capture do: document 01, "Captures" and "Answer numbers". A world is a record with both stores.
+-- What a command, a capture and a drop do: document 01, "Captures" and "Answer numbers", and document 02, Q-1. A world is a record with both
+-- stores.
 -- Assumes nothing.
-use Prim.Native.Nat.{ℕ, _+_}
+use Prim.Native.Nat.{ℕ}
 use mathlib.Core.List.{List, [], _++_}
 use mathlib.Core.Bool.{Bool, not, _&&_}
 use lib.ListN.{length, drop}
 use lib.Dec.{eqb}
 use Rattle.choices.specs.Choice.{pick}
-use Rattle.answers.specs.Answers.{success, invalidLogPage}
+use Rattle.answers.specs.Answers.{success, invalidLogPage, disagree}
 use Rattle.answers.specs.Classes.{classOf}
 use Rattle.pages.specs.Pages.{controllerPage, lastOf, topOf, trimOf, perPage}
 use Rattle.words.specs.declared.Command.{Command}
@@ -14,9 +15,9 @@ use Rattle.words.specs.declared.Words.{Words}
 use Rattle.words.specs.Words.{readOf}
 use Rattle.header.specs.Header.{headerOf}
 use Rattle.records.specs.declared.Record.{Record}
-use Rattle.records.specs.Records.{fieldsFor, blocksFor}
+use Rattle.records.specs.Records.{fieldsFor, blocksFor, agreesWith}
 use Rattle.serving.specs.Serving.{pageBytes, windowOf}
-use Rattle.captures.specs.Captures.{keptIn, reasonOf, hostTaken, controllerTaken, clearedOf}
+use Rattle.captures.specs.Captures.{keptIn, reasonOf, hostTaken, controllerTaken, clearedOf, droppedOf}
 use Rattle.verdicts.specs.declared.Lent.{Lent}
 use Rattle.verdicts.specs.Verdicts.{commandAnswer, captureAnswer}
 
@@ -131,3 +132,12 @@ captureAnswered w candidate answer = pick (eqb answer success) (outcome success 
 
 unfoldable pub captureOf : World → Candidate → Outcome
 captureOf w candidate = captureAnswered w candidate (captureAnswer (w .own) (candidate .last) (lentBy w candidate []))
+
+-- ---- a drop of the host's data
+
+abbrev pub hostDropped : World → World
+hostDropped w = world (droppedOf (w .own)) (w .host) (w .controller)
+
+-- 4 and nothing changed, or 0
+unfoldable pub dropOf : World → Outcome
+dropOf w = pick (agreesWith (w .own) (length (w .host)) (length (w .controller))) (outcome success 0 (hostDropped w) []) (outcome disagree 0 w [])

@@ -1,5 +1,5 @@
--- What any command and any capture keep: a refusal changes nothing, an agreeing world stays one, and nothing changes but by a create or
--- an acknowledgement.
+-- What any command, capture and drop keep: a refusal changes nothing, an agreeing world stays one, and nothing changes but by a create, an
+-- acknowledgement, a capture or a drop.
 -- Assumes nothing.
 use Prim.Native.Nat.{ℕ, _*_}
 use mathlib.Core.Path.{_≡_, refl, sym, ap, subst, _∙_}
@@ -22,9 +22,9 @@ use Rattle.records.specs.Records.{agreesWith}
 use Rattle.records.specs.Back.{StoreFits, Typed, agreed, agrees-where, agreed-typed}
 use Rattle.verdicts.specs.Verdicts.{commandAnswer, captureAnswer}
 use Rattle.verdicts.specs.Accepted.{Whole, Accepted, accepted, Captures, captures}
-use Rattle.captures.specs.Captures.{clearedOf}
+use Rattle.captures.specs.Captures.{clearedOf, droppedOf}
 use Rattle.controller.specs.Steps.{create-host, host-stays, captured, no-capture}
-use Rattle.controller.specs.Controller.{World, world, Candidate, hostCaptured, controllerCaptured, outcome, Outcome, classFor, lentBy, acknowledges, cleared, before, sentOf, afterwards, answered, commandOf, captureAnswered, captureOf}
+use Rattle.controller.specs.Controller.{World, world, Candidate, hostCaptured, controllerCaptured, outcome, Outcome, classFor, lentBy, acknowledges, cleared, before, sentOf, afterwards, answered, commandOf, captureAnswered, captureOf, hostDropped, dropOf}
 
 -- what the words say, and the answer to that
 abbrev pub asked : World → Words → Command
@@ -240,3 +240,59 @@ capture-refusal-changes-nothing w candidate =
     by-test (eqb (captureAnswer (w .own) (candidate .last) (lentBy w candidate [])) success)
     (λ e. rw e (λ n. absurd (n refl)))
     (λ e. rw e (λ n. refl))
+
+-- ---- a drop
+
+-- by its answer, 0 of a world that agrees
+pub drop-done : (w : World) → Agrees w → dropOf w ≡ outcome success 0 (hostDropped w) []
+unfolding dropOf
+drop-done w g = rw g
+
+-- a refused drop changes nothing
+pub drop-refusal-changes-nothing : (w : World) → (dropOf w .answer ≡ success → ⊥) → dropOf w .world ≡ w
+unfolding dropOf
+drop-refusal-changes-nothing w =
+    by-test (agreesWith (w .own) (length (w .host)) (length (w .controller)))
+    (λ e. rw e (λ n. absurd (n refl)))
+    (λ e. rw e (λ n. refl))
+
+-- any drop leaves both stores, all of 08h, the capabilities and the identity, and the generation of 07h
+pub drop-frame : (w : World)
+    → (dropOf w .world .host ≡ w .host) × (dropOf w .world .controller ≡ w .controller) × (dropOf w .world .own .controller ≡ w .own .controller)
+    × (dropOf w .world .own .caps ≡ w .own .caps) × (dropOf w .world .own .identity ≡ w .own .identity)
+    × (dropOf w .world .own .host .generation ≡ w .own .host .generation)
+unfolding dropOf
+drop-frame w =
+    by-test (agreesWith (w .own) (length (w .host)) (length (w .controller)))
+    (λ e. rw e (refl, refl, refl, refl, refl, refl))
+    (λ e. rw e (refl, refl, refl, refl, refl, refl))
+
+pub drop-agrees : (w : World) → Agrees w → Agrees (hostDropped w)
+unfolding greatestOf
+drop-agrees w g =
+    let k = agreed (w .own) (length (w .host)) (length (w .controller)) g in
+    agrees-where _ _ _
+    (record {
+      host = record { rule = no-rule (w .own .caps .da4s); room = omega arith };
+      controller = k .controller;
+      identity = k .identity;
+    })
+
+pub drop-typed : (w : World) → Agrees w → Typed (w .own) → Typed (droppedOf (w .own))
+drop-typed w g t =
+    agreed-typed _ _ _ (drop-agrees w g)
+    (record {
+      host-four = refl;
+      host-reason = refl;
+      controller-four = t .sized .controller-four;
+      controller-reason = t .sized .controller-reason;
+    })
+    (t .ranged .host-generation)
+    (t .ranged .controller-generation)
+
+-- agreement and what the types say are kept by every drop
+pub dropped-agrees : (w : World) → Agrees w → Agrees (dropOf w .world)
+dropped-agrees w g = rw (drop-done w g) (drop-agrees w g)
+
+pub dropped-typed : (w : World) → Agrees w → Typed (w .own) → Typed (dropOf w .world .own)
+dropped-typed w g t = rw (drop-done w g) (drop-typed w g t)

@@ -1,4 +1,4 @@
--- What `command` and `capture` do, path by path, in variables: each function's proof hands over what its calls ensure.
+-- What `command`, `capture` and `drop` do, path by path, in variables: each function's proof hands over what its calls ensure.
 -- Assumes nothing.
 use Prim.Native.Nat.{ℕ, _*_, _≤_}
 use mathlib.Core.Path.{_≡_, refl, sym, ap, subst, _∙_}
@@ -10,7 +10,7 @@ use borrow.Author.Tests.{eqb-true, ne-eqb}
 use Rattle.choices.specs.Choice.{pick}
 use Rattle.choices.specs.Tests.{by-test, and-left}
 use Rattle.copies.specs.Parts.{zeros, put-length, put-whole}
-use Rattle.answers.specs.Answers.{success}
+use Rattle.answers.specs.Answers.{success, disagree}
 use Rattle.pages.specs.Pages.{hostPage, telemetryPage, block, lastOf, topOf, trimOf, perPage}
 use Rattle.pages.specs.Trimmed.{trim-blocks}
 use Rattle.pages.specs.Laws.{by-page, blocks-greatest}
@@ -24,9 +24,9 @@ use Rattle.records.specs.Back.{agreed}
 use Rattle.serving.specs.Serving.{servedInto, served-fits}
 use Rattle.verdicts.specs.Verdicts.{commandAnswer, captureAnswer}
 use Rattle.verdicts.specs.Accepted.{Whole, Accepted, accepted, captures}
-use Rattle.captures.specs.Captures.{keptIn, reasonOf, controllerTaken, clearedOf}
+use Rattle.captures.specs.Captures.{keptIn, reasonOf, controllerTaken, clearedOf, droppedOf}
 use Rattle.controller.specs.declared.Answered.{Answered}
-use Rattle.controller.specs.Controller.{World, world, Candidate, storeFor, pageOf, recordMade, storeMade, hostCaptured, controllerCaptured, outcome, Outcome, classFor, lentBy, acknowledges, before, sentOf, afterwards, answered, commandOf, captureAnswered, captureOf}
+use Rattle.controller.specs.Controller.{World, world, Candidate, storeFor, pageOf, recordMade, storeMade, hostCaptured, controllerCaptured, outcome, Outcome, classFor, lentBy, acknowledges, before, sentOf, afterwards, answered, commandOf, captureAnswered, captureOf, dropOf}
 
 -- ---- what the words say of create
 
@@ -179,3 +179,16 @@ captured-is w candidate x y e z en ey =
     let g = captures (w .own) (candidate .last) (lentBy w candidate []) (sym e ∙ z) in
     let es = reason-whole (candidate .reason) _ (g .candidate .long) refl in
     rw (ey, en .0, en .1, es, ← e, z)
+
+-- ---- the paths of a drop
+
+module _ (w : World) (y : Answered) {t : Bool} (e : t ≡ agreesWith (w .own) (length (w .host)) (length (w .controller))) where
+  pub dropped-is : {next : Record} → t ≡ true → next ≡ droppedOf (w .own) → y ≡ record { answer = success; class = 0; own = next }
+      → outcome (y .answer) (y .class) (world (y .own) (w .host) (w .controller)) [] ≡ dropOf w
+  unfolding dropOf
+  dropped-is z en ey = rw (ey, en, ← e, z)
+
+  pub drop-refused-is : t ≡ false → y ≡ record { answer = disagree; class = 0; own = w .own }
+      → outcome (y .answer) (y .class) (world (y .own) (w .host) (w .controller)) [] ≡ dropOf w
+  unfolding dropOf
+  drop-refused-is z ey = rw (ey, ← e, z)

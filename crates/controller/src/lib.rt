@@ -1,7 +1,7 @@
-// The controller side: Get Log Page for 07h and 08h, and the controller's own captures on 08h.
+// The controller side: Get Log Page for 07h and 08h, the controller's own captures on 08h, and drops of the host's data.
 //
 // It rests on all of the ground floor, on serving, verdicts and captures. It promises the answer, the record, both stores and the buffer after
-// any command and any capture, on any lent bytes, as one equation each (specs/Controller.antt). Everything is decided before anything is
+// any command, capture and drop, on any lent bytes, as one equation each (specs/Controller.antt). Everything is decided before anything is
 // written, so that what is refused changes nothing.
 use records::Record;
 use verdicts::Lent;
@@ -11,7 +11,7 @@ ghost use mathlib.Core.Path.{_≡_};
 ghost use mathlib.Core.List.{[]};
 ghost use Rattle.choices.specs.Choice.{pick};
 ghost use Rattle.captures.specs.Captures.{clearedOf};
-ghost use Rattle.controller.specs.Controller.{recordMade, storeMade, acknowledges, classFor, world, candidateOf, outcome, commandOf, captureOf};
+ghost use Rattle.controller.specs.Controller.{recordMade, storeMade, acknowledges, classFor, world, candidateOf, outcome, commandOf, captureOf, dropOf};
 
 // The answer, with the identifier's class where it is 2 (else 0), and the record afterwards.
 pub struct Answered {
@@ -128,4 +128,14 @@ pub fn capture(
         answer,
         captures::on_controller(r, a, bytes, reason, controller),
     )
+}
+
+// A drop of the host's data, as a Firmware Commit or power on makes it. Both stores stay as lent; a refusal leaves the record so too.
+pub fn drop(r: Record, host: &[u8], controller: &[u8]) -> Answered
+    ensures { λ x. ⌜ outcome (x .answer) (x .class) (world (x .own) (now (host .entry)) (now (controller .entry))) [] ≡ dropOf (world r (now (host .entry)) (now (controller .entry))) ⌝ }
+{
+    if records::agrees(r, host.len(), controller.len()) {
+        return plain(answers::SUCCESS, captures::dropped(r));
+    }
+    plain(answers::DISAGREE, r)
 }

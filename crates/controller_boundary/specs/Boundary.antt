@@ -13,7 +13,7 @@ use Rattle.words.specs.declared.Words.{Words}
 use Rattle.records.specs.declared.Identity.{Identity}
 use Rattle.records.specs.declared.Record.{Record}
 use Rattle.records.specs.Records.{identityOk, freshOf}
-use Rattle.controller.specs.Controller.{Candidate, world, Outcome, commandOf, captureOf}
+use Rattle.controller.specs.Controller.{Candidate, world, Outcome, commandOf, captureOf, dropOf}
 use Rattle.shared_layouts.specs.Layouts.{mostCaps, capsOf}
 use Rattle.record_layout.specs.Layout.{recordBytes, recordAt, recordIntact}
 
@@ -78,3 +78,19 @@ captureAt r h k candidate =
     pick (recordIntact r)
     (captureAnswerOf r (captureOf (world (recordAt r) h k) candidate))
     (captureAnswer disagree r k)
+
+-- what a drop leaves: answer and the record's bytes
+pub record DropAnswer : Type 0 where
+  pub answer : ℕ
+  pub own : List ℕ
+
+abbrev pub dropAnswer : ℕ → List ℕ → DropAnswer
+dropAnswer answer own = record { answer = answer; own = own }
+
+-- what a drop's outcome leaves of a record's bytes
+abbrev pub dropAnswerOf : List ℕ → Outcome → DropAnswer
+dropAnswerOf r o = dropAnswer (o .answer) (recordAfter r (o .answer) (o .world .own))
+
+-- a drop on a record's bytes, host store h and controller store k
+unfoldable pub dropAt : List ℕ → List ℕ → List ℕ → DropAnswer
+dropAt r h k = pick (recordIntact r) (dropAnswerOf r (dropOf (world (recordAt r) h k))) (dropAnswer disagree r)

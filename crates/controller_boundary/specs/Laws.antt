@@ -9,11 +9,11 @@ use Rattle.choices.specs.Choice.{pick-cases}
 use Rattle.choices.specs.Tests.{by-test}
 use Rattle.answers.specs.Answers.{success}
 use Rattle.words.specs.declared.Words.{Words}
-use Rattle.controller.specs.Controller.{World, world, Candidate, Outcome, commandOf, captureOf}
+use Rattle.controller.specs.Controller.{World, world, Candidate, Outcome, commandOf, captureOf, dropOf}
 use Rattle.controller.specs.Laws.{refusal-changes-nothing, capture-refusal-changes-nothing}
 use Rattle.record_layout.specs.Layout.{recordAt, recordIntact}
 use Rattle.record_layout.specs.Back.{record-intact}
-use Rattle.controller_boundary.specs.Boundary.{recordAfter, commandAt, captureAt}
+use Rattle.controller_boundary.specs.Boundary.{recordAfter, commandAt, captureAt, dropAt}
 use Rattle.controller_boundary.specs.Steps.{kept-record}
 
 module _ (r h k : List ℕ) (candidate : Candidate) where
@@ -43,6 +43,14 @@ module _ (r h k : List ℕ) (candidate : Candidate) where
       (sym (kept-record r (captureOf w candidate .answer) (captureOf w candidate .world .own) n), ap (λ (x : World). x .controller) (capture-refusal-changes-nothing w candidate n))))
       (λ p. rw p (λ n. (refl, refl)))
 
+-- and so does a drop
+pub drop-refusal : (r h k : List ℕ) → (dropAt r h k .answer ≡ success → ⊥) → dropAt r h k .own ≡ r
+unfolding dropAt
+drop-refusal r h k =
+    by-test (recordIntact r)
+    (λ p. rw p (λ n. let o = dropOf (world (recordAt r) h k) in sym (kept-record r (o .answer) (o .world .own) n)))
+    (λ p. rw p (λ n. refl))
+
 intact-after : (r : List ℕ) (o : Outcome) → recordIntact r ≡ true → recordIntact (recordAfter r (o .answer) (o .world .own)) ≡ true
 intact-after r o s =
     pick-cases (λ (b : List ℕ). recordIntact b ≡ true) (eqb (o .answer) success) (λ e. record-intact (o .world .own)) (λ e. s)
@@ -56,3 +64,7 @@ command-intact r h k candidate words buf s = rw s (intact-after r (commandOf (wo
 pub capture-intact : (r h k : List ℕ) (candidate : Candidate) → recordIntact r ≡ true → recordIntact (captureAt r h k candidate .own) ≡ true
 unfolding captureAt
 capture-intact r h k candidate s = rw s (intact-after r (captureOf (world (recordAt r) h k) candidate) s)
+
+pub drop-intact : (r h k : List ℕ) → recordIntact r ≡ true → recordIntact (dropAt r h k .own) ≡ true
+unfolding dropAt
+drop-intact r h k s = rw s (intact-after r (dropOf (world (recordAt r) h k)) s)

@@ -16,10 +16,10 @@ use Rattle.records.specs.declared.Identity.{Identity}
 use Rattle.records.specs.declared.Record.{Record}
 use Rattle.records.specs.Records.{identityOk, agreesWith, freshOf}
 use Rattle.records.specs.Back.{agreed, fresh-agrees}
-use Rattle.controller.specs.Controller.{Candidate, world, outcome, commandOf, captureOf}
+use Rattle.controller.specs.Controller.{Candidate, world, outcome, commandOf, captureOf, dropOf}
 use Rattle.shared_layouts.specs.Layouts.{mostCaps, capsOf}
 use Rattle.record_layout.specs.Layout.{recordBytes, recordAt, recordIntact}
-use Rattle.controller_boundary.specs.Boundary.{freshOk, freshBytes, recordAfter, commandAnswer, commandAnswerOf, commandAt, captureAnswer, captureAnswerOf, captureAt}
+use Rattle.controller_boundary.specs.Boundary.{freshOk, freshBytes, recordAfter, commandAnswer, commandAnswerOf, commandAt, captureAnswer, captureAnswerOf, captureAt, dropAnswer, dropAnswerOf, dropAt}
 
 -- ---- a fresh record
 
@@ -49,7 +49,7 @@ module _ (caps : ℕ) (i : Identity) {c : Caps} {r : Record} {t : Bool} (ec : c 
       let q : freshOk caps i ≡ false = sym fresh-test ∙ p in
       (rw q, rw q)
 
--- ---- a command and a capture
+-- ---- a command, a capture and a drop
 
 pub kept-record : (r : List ℕ) (answer : ℕ) (after : Record) → (answer ≡ success → ⊥) → r ≡ recordAfter r answer after
 kept-record r answer after n = rw (ne-eqb answer success n)
@@ -82,3 +82,14 @@ module _ (r h k : List ℕ) (candidate : Candidate) where
   unfolding captureAt
   capture-done {answer = answer} {controller = controller} e f z o w =
       rw (sym e ∙ not-false _ f, ← z) (ap (λ (x : List ℕ). captureAnswer answer x controller) w ∙ ap (captureAnswerOf r) o)
+
+module _ (r h k : List ℕ) where
+  pub drop-damaged : {t : Bool} → t ≡ recordIntact r → not t ≡ true → dropAnswer disagree r ≡ dropAt r h k
+  unfolding dropAt
+  drop-damaged e f = rw (sym e ∙ not-true _ f)
+
+  pub drop-done : {t : Bool} {z y : Record} {answer class : ℕ} {w none : List ℕ} → t ≡ recordIntact r → not t ≡ false
+      → z ≡ recordAt r → outcome answer class (world y h k) none ≡ dropOf (world z h k) → w ≡ recordAfter r answer y
+      → dropAnswer answer w ≡ dropAt r h k
+  unfolding dropAt
+  drop-done {answer = answer} e f z o w = rw (sym e ∙ not-false _ f, ← z) (ap (λ (x : List ℕ). dropAnswer answer x) w ∙ ap (dropAnswerOf r) o)

@@ -13,7 +13,7 @@ ghost use Rattle.choices.specs.Choice.{pick};
 ghost use Rattle.answers.specs.Answers.{success, disagree, statusOf, statusNumber};
 ghost use Rattle.answers.specs.Classes.{classOf};
 ghost use Rattle.controller.specs.Controller.{candidateOf};
-ghost use Rattle.controller_boundary.specs.Boundary.{wordsOf, identityOf, freshOk, freshBytes, recordAfter, commandAnswer, commandAt, captureAnswer, captureAt};
+ghost use Rattle.controller_boundary.specs.Boundary.{wordsOf, identityOf, freshOk, freshBytes, recordAfter, commandAnswer, commandAt, captureAnswer, captureAt, dropAnswer, dropAt};
 
 // The class of a page identifier.
 #[no_mangle]
@@ -155,6 +155,32 @@ pub extern "C" fn bumbazeel_capture(
     );
     let answer = taken.answer;
     let after = taken.own;
+    *own = record_after(lent, answer, after);
+    answer
+}
+
+// Drops the host's data: writes the record where it succeeds.
+#[no_mangle]
+pub extern "C" fn bumbazeel_drop(
+    own: &mut [u8; 300],
+    host_store: &[u8],
+    controller_store: &[u8],
+) -> u8
+    ensures { λ r. ⌜
+        dropAnswer r (now (own .exit)) ≡ dropAt (now (own .entry)) (now («host_store» .entry)) (now («controller_store» .entry))
+        ⌝ }
+{
+    let lent = *own;
+    if !record_layout::record_intact(&lent) {
+        return answers::DISAGREE;
+    }
+    let dropped = controller::drop(
+        record_layout::read_record(&lent),
+        host_store,
+        controller_store,
+    );
+    let answer = dropped.answer;
+    let after = dropped.own;
     *own = record_after(lent, answer, after);
     answer
 }

@@ -49,9 +49,9 @@ module _ (c : Collector) (p : Plan) (copy : List ℕ) (w : World) (first : Loan)
     pub room : length copy ≡ p .room
     -- what the types say of the record
     pub typed : Typed (w .own)
-    -- at most k captures of the page after the first command, and more than k attempts
+    -- at most k captures and drops of the page after the first command, both together, and more than k attempts
     pub attempts : k < p .attempts
-    pub captures : final .counts .captures ≤ k
+    pub changes : final .counts .changes ≤ k
     -- none of the run's commands was answered 3, 4 or 5
     pub spared : final .counts .lentRefusals ≡ 0
 
@@ -123,7 +123,7 @@ module _ (p : Plan) (copy : List ℕ) (w : World) (first : Loan) (ts : List (Tur
   pub demand3 : (k : ℕ) → Asked ours p copy w first ts k → Demand3 ours p copy w first ts k
   unfolding controllerKeeps final
   demand3 k a =
-      let d = demand (controllerSource (p .page)) p (controllerKeeps p (a .taken)) copy w first ts (a .taken) (a .room) (good k a) k (omega (arith, a .attempts, plan-limits p (a .taken) .attempts-high)) (a .attempts) (a .captures) (a .spared) in
+      let d = demand (controllerSource (p .page)) p (controllerKeeps p (a .taken)) copy w first ts (a .taken) (a .room) (good k a) k (omega (arith, a .attempts, plan-limits p (a .taken) .attempts-high)) (a .attempts) (a .changes) (a .spared) in
       let r = d .0 in
       record {
         counted = r .counted;

@@ -4,14 +4,17 @@ use Prim.Native.Nat.{ℕ, _+_, _%_, _≤_, _<_}
 use mathlib.Core.Path.{_≡_, refl, sym, ap, subst, _∙_}
 use mathlib.Core.List.{List}
 use mathlib.Core.Bool.{Bool, true, false, _&&_}
+use lib.ListN.{length}
 use lib.Dec.{eqb}
 use borrow.Author.Tests.{eqb-true, leb-true}
 use Rattle.choices.specs.Choice.{pick}
 use Rattle.choices.specs.Tests.{by-test, clash, each, or-cases}
+use Rattle.copies.specs.Parts.{zeros}
 use Rattle.answers.specs.Answers.{success}
 use Rattle.pages.specs.Pages.{hostPage, controllerPage}
 use Rattle.words.specs.declared.Words.{Words}
 use Rattle.header.specs.Header.{faultless}
+use Rattle.records.specs.Records.{hostFields, controllerFields, fieldsFor}
 use Rattle.plans.specs.declared.Plan.{Plan}
 use Rattle.plans.specs.declared.Phase.{Phase}
 use Rattle.plans.specs.declared.Phase.the-variants.{First, Chunk, Close, Ack, Ended}
@@ -23,9 +26,9 @@ use Rattle.controller.specs.Controller.{World}
 use Rattle.demand3.specs.Answered.{sends, retained}
 use Rattle.sources.specs.Source.{forLent}
 use Rattle.sources.specs.Keeps.{Keeps, Header}
-use Rattle.demand3.specs.Bench.{Event, Loan, actOf, capturesOf, ownOf, controllerSource}
+use Rattle.demand3.specs.Bench.{Event, Loan, actOf, capturesOf, dropsOf, ownOf, controllerSource}
 use Rattle.demand3.specs.Shown.{showsFor, wantedArea, Good, plan-page, area-long}
-use Rattle.demand3.specs.Events.{act-good, act-moves, act-quiet}
+use Rattle.demand3.specs.Events.{act-good, act-moves, act-empties, act-quiet}
 use Rattle.demand3.specs.Own.{own-header-law, own-create-law, own-good, chunk-keeps, chunk-long, chunk-right}
 
 module _ (p : Plan) (e : setupAnswer p ≡ success) where
@@ -47,6 +50,14 @@ module _ (p : Plan) (e : setupAnswer p ≡ success) where
   pub moves : (x : Event) (w : World) → Good p w → showsFor (p .page) (actOf x w) .generation ≡ (showsFor (p .page) w .generation + capturesOf (p .page) x w) % 256
   unfolding showsFor
   moves x w g = act-moves (p .page) (plan-page p e) x w (byte w g)
+
+  pub four : (w : World) → Good p w → length (showsFor (p .page) w .last) ≡ 4
+  unfolding showsFor fieldsFor hostFields controllerFields
+  four w g = by-test (eqb (p .page) hostPage) (λ q. rw q (g .typed .sized .host-four)) (λ q. rw q (g .typed .sized .controller-four))
+
+  pub empties : (x : Event) (w : World) → 1 ≤ dropsOf (p .page) x w → showsFor (p .page) (actOf x w) .last ≡ zeros 4
+  unfolding showsFor
+  empties x w = act-empties (p .page) (plan-page p e) x w
 
   -- the first command, with create or not
   abbrev pub First-law : Loan → World → Words → Type 0
@@ -90,9 +101,11 @@ module _ (p : Plan) (e : setupAnswer p ≡ success) where
     area = wantedArea p;
     sound = λ w g. sound w;
     byte = byte;
+    four = four;
     long = λ w g. area-long p w;
     act-good = λ x w g. act-good p x w g;
     moves = λ x w g. moves x w g;
+    empties = λ x w g. empties x w;
     quiet = λ x w g. act-quiet p e x w g;
     first = λ l last w g f. (first-law l last w g f, own-good p e w g l (wordsBy First p last));
     closing = closing-law;

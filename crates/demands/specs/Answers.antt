@@ -33,7 +33,7 @@ use Rattle.collection.specs.declared.Collection.{Collection}
 use Rattle.turns.specs.Refusals.{firstRefusal}
 use Rattle.collection.specs.Collection.{validState, completionFits, refusalOf, lookOf, moveOf, setupOf, stepOf, answerOf}
 use Rattle.collection.specs.Steps.{makes, setup-taken, setup-refused, refused-step, taken-step}
-use Rattle.controller.specs.Controller.{World, Candidate, lentBy, commandOf, captureAnswered, captureOf}
+use Rattle.controller.specs.Controller.{World, Candidate, lentBy, commandOf, captureAnswered, captureOf, dropOf}
 use Rattle.controller.specs.Laws.{asked, command-answer}
 
 -- a number is one of these
@@ -91,6 +91,11 @@ capture-gives w candidate =
     (λ e. rw e)
     (λ e. rw e
     (of-capture (λ (n : ℕ). among (success ∷ disagree ∷ brokenCandidate ∷ []) n ≡ true) (w .own) (candidate .last) (lentBy w candidate []) refl refl refl))
+
+-- a drop
+pub drop-gives : (w : World) → among (success ∷ disagree ∷ []) (dropOf w .answer) ≡ true
+unfolding dropOf
+drop-gives w = by-test (agreesWith (w .own) (length (w .host)) (length (w .controller))) (λ e. rw e) (λ e. rw e)
 
 -- ---- the host side
 

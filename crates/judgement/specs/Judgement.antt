@@ -1,12 +1,12 @@
--- Document 01, "Host: header check and collection", on what a completion calls for: first what it tells, test by test, and then the orders of
--- endings over the tests. h is what is seen of its data, a the attempt.
+-- Document 01, "Host: header check and collection", and document 02, Q-1, on what a completion calls for: first what it tells, test by test, and
+-- then the orders of endings over the tests. h is what is seen of its data, a the attempt.
 -- Assumes nothing.
 use Prim.Native.Nat.{ℕ}
 use mathlib.Core.List.{[], _∷_}
 use mathlib.Core.Bool.{Bool, true, false, not, _&&_}
 use lib.Dec.{leb, eqb}
 use Rattle.choices.specs.Choice.{firstThat}
-use Rattle.pages.specs.Pages.{controllerPage}
+use Rattle.pages.specs.Pages.{controllerPage, sameLast}
 use Rattle.header.specs.Header.{faultless}
 use Rattle.plans.specs.declared.Plan.{Plan}
 use Rattle.plans.specs.declared.Phase.{Phase}
@@ -22,9 +22,9 @@ use Rattle.judgement.specs.declared.Move.the-variants.{End, Open, More, 
 
 -- ---- what a completion tells
 
--- the header matches the attempt's header
+-- the header matches the attempt's header: its generation and all four last blocks are the same
 abbrev pub matches : Attempt → Seen → Bool
-matches a h = eqb (h .generation) (a .generation)
+matches a h = eqb (h .generation) (a .generation) && sameLast (h .last) (a .last)
 
 -- the acknowledgement shows another generation than the attempt's header
 abbrev pub newerThan : Attempt → Seen → Bool

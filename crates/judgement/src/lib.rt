@@ -77,7 +77,8 @@ pub fn newer(ending: Ending) -> bool
 // ---- what a completion calls for
 
 // What a completion tells of an attempt, test by test: it is refused; its header has a fault; an 08h header shows no data; the area is larger than
-// the copy; the header matches the attempt's; its generation is another; no attempt is left; the page is one to acknowledge.
+// the copy; the header matches the attempt's, in its generation and all four last blocks; its generation is another; no attempt is left; the page
+// is one to acknowledge.
 struct Tests {
     refused: bool,
     fault: Fault,
@@ -96,15 +97,16 @@ fn tests_of(p: Plan, a: Attempt, ok: bool, h: Seen) -> Tests
     let last = h.last;
     let fault = h.fault;
     let acknowledged = p.page == pages::CONTROLLER;
-    let same = h.generation == a.generation;
+    let held = a.last;
+    let generation = h.generation == a.generation;
     Tests {
         refused: !ok,
         fault,
         bad: !header::faultless(fault),
         none: acknowledged & (h.tcda == 0),
         large: !plans::fits_room(p, last),
-        same,
-        newer: !same,
+        same: generation & pages::same_last(last, held),
+        newer: !generation,
         used: p.attempts <= a.number,
         acknowledged,
     }

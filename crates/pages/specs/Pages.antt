@@ -60,6 +60,16 @@ lastOk da4s a = holds (lastTests da4s a)
 abbrev pub lastOf : ℕ → List ℕ → ℕ
 lastOf area a = pick (eqb area 1) (getD a 0 0) (pick (eqb area 2) (getD a 1 0) (pick (eqb area 3) (getD a 2 0) (getD a 3 0)))
 
+-- all four are the same
+unfoldable pub sameLast : List ℕ → List ℕ → Bool
+sameLast a b =
+    holds
+    (eqb (getD a 0 0) (getD b 0 0)
+    ∷ eqb (getD a 1 0) (getD b 1 0)
+    ∷ eqb (getD a 2 0) (getD b 2 0)
+    ∷ eqb (getD a 3 0) (getD b 3 0)
+    ∷ [])
+
 -- the greatest of the four
 unfoldable pub greatestOf : List ℕ → ℕ
 greatestOf a = larger (getD a 0 0) (larger (getD a 1 0) (larger (getD a 2 0) (getD a 3 0)))

@@ -6,7 +6,7 @@
 ghost use mathlib.Core.Path.{_≡_};
 ghost use Prim.Native.Nat.{_+_, _*_};
 ghost use lib.ListN.{getD};
-ghost use Rattle.pages.specs.Pages.{block, area2Ok, area3Ok, area4Ok, lastOk, lastOf, greatestOf, blocksOf, sizeOf, topOf, trimmedTo, trimOf};
+ghost use Rattle.pages.specs.Pages.{block, area2Ok, area3Ok, area4Ok, lastOk, lastOf, sameLast, greatestOf, blocksOf, sizeOf, topOf, trimmedTo, trimOf};
 
 // Telemetry host-initiated.
 pub const HOST: u8 = 0x07;
@@ -72,6 +72,13 @@ pub fn last_of(area: u32, a: [u32; 4]) -> u32
         a[0],
         choices::pick_u32(area == 2, a[1], choices::pick_u32(area == 3, a[2], a[3])),
     )
+}
+
+// Whether all four are the same.
+pub fn same_last(a: [u32; 4], b: [u32; 4]) -> bool
+    ensures { λ r. ⌜ r ≡ sameLast a b ⌝ }
+{
+    (a[0] == b[0]) & (a[1] == b[1]) & (a[2] == b[2]) & (a[3] == b[3])
 }
 
 // The greatest of the four.

@@ -8,7 +8,7 @@ use mathlib.Core.Bool.{true, false}
 use lib.ListN.{replicate}
 use Rattle.choices.specs.Tests.{holds}
 use Rattle.copies.specs.Parts.{zeros, putAt}
-use Rattle.pages.specs.Pages.{hostPage, lastOk}
+use Rattle.pages.specs.Pages.{hostPage, lastOk, sameLast}
 use Rattle.header.specs.Header.{fieldFault, faultOf, checkOf}
 use Rattle.plans.specs.declared.Plan.{Plan}
 use Rattle.plans.specs.Plans.{setupAnswer, fitsRoom, chunkBlocks, withinBy, phaseAt}
@@ -57,5 +57,5 @@ replies =
 pub stale : (heldOf plan (replicate 1024 1) replies .copy ≡ filled 9 ++ zeros 512)
     × (heldOf plan (replicate 1024 1) replies .attempts ≡ filled 9 ∷ (filled 7 ++ filled 8) ∷ [])
     × (heldOf plan (replicate 1024 1) replies .endings ≡ record { ending = Success false; count = 6 } ∷ [])
-unfolding heldAfter stepOf copyAfter setupOf decideOf actOf turnBy turnOf moveOf refusalOf completionFits validState expectedOf lookOf lookBy seenOf generationOf touched testsOf firstOrder matchOrder laterOrder judgeBy setupAnswer fitsRoom chunkBlocks withinBy phaseAt checkOf faultOf fieldFault lastOk holds putAt
+unfolding heldAfter stepOf copyAfter setupOf decideOf actOf turnBy turnOf moveOf refusalOf completionFits validState expectedOf lookOf lookBy seenOf generationOf touched testsOf firstOrder matchOrder laterOrder judgeBy setupAnswer fitsRoom chunkBlocks withinBy phaseAt checkOf faultOf fieldFault lastOk sameLast holds putAt
 stale = (refl, refl, refl)

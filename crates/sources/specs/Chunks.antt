@@ -85,7 +85,7 @@ module _ (D : Source) (p : Plan) (K : Keeps D p) (s : Stand D) (o : Done (D .Sta
       sent = stepped D s o x y .sent;
       headers = s .headers;
       checked = s .checked;
-      counts = record { since = s .counts .since; captures = s .counts .captures; lentRefusals = stepped D s o x y .counts .lentRefusals };
+      counts = record { since = s .counts .since; drops = s .counts .drops; changes = s .counts .changes; lentRefusals = stepped D s o x y .counts .lentRefusals };
     }
 
     plain-is : (x : Stepped) (y : List ℕ) → plain x y ≡ stepped D s o x y
@@ -111,6 +111,7 @@ module _ (D : Source) (p : Plan) (K : Keeps D p) (s : Stand D) (o : Done (D .Sta
           here = op .here;
           live = op .live;
           gens = op .gens ∙ ap (λ (i : ℕ). (i + s .counts .since) % 256) (sym g);
+          stays = λ none whole live. op .stays none whole live ∙ sym l;
           begun = omega (arith, op .begun, length-append (s .sent) (given (x .next)));
         }
 
@@ -131,15 +132,15 @@ module _ (D : Source) (p : Plan) (K : Keeps D p) (s : Stand D) (o : Done (D .Sta
         let place : block * (at - 1 + n) ≡ block * (at - 1) + block * n = omega arith in
         let mid : Mid D p K (plain x y) (at - 1 + n) true = record {
           opened = still-opened x y refl refl refl;
-          kept = λ none live.
-              let k = m .kept none live in
-              let e : o .bytes ≡ take (block * n) (drop (block * (at - 1)) (K .area (s .checked))) = right (k .last) ∙ rw (k .area) in
+          kept = λ none live same-last.
+              let k = m .kept none live same-last in
+              let e : o .bytes ≡ take (block * n) (drop (block * (at - 1)) (K .area (s .checked))) = right same-last ∙ rw (k .area) in
               record {
-                last = k .last;
                 area = k .area;
                 whole = refl;
                 filled = rw place (put-grows (s .copy) (K .area (s .checked)) (o .bytes) (block * (at - 1)) (block * n) (cc .0) l (k .filled) e);
               };
+          some = λ z. absurd (omega (arith, i .0, i .1, z));
         } in
         finish D p K s o x y ex ey c (rw f (c .tries))
         (at-phase D p K (stepped D s o x y) (at + state .plan .chunk) (at - 1 + n) (areaLast (state .plan) (state .attempt .last))
@@ -154,6 +155,7 @@ module _ (D : Source) (p : Plan) (K : Keeps D p) (s : Stand D) (o : Done (D .Sta
     refused a right =
         let z : fine o ≡ false = ne-eqb (o .answer) success a in
         let t : refusalOf state false 0 (length (s .copy)) ≡ success = takes state false [] (length (s .copy)) (c .house) (rw f) room refl in
+        let i = chunk-inside at last (rw (f, c .plan) at (c .house .inside)) in
         let x : Stepped = sends (inPhase state (Close true)) in
         let ex : step D p K s o ≡ x = rw z (chunk-refused state at [] (length (s .copy)) f t) in
         let ey : copied D p K s o ≡ s .copy =
@@ -162,7 +164,8 @@ module _ (D : Source) (p : Plan) (K : Keeps D p) (s : Stand D) (o : Done (D .Sta
         (subst (λ (v : Stand D). Mid D p K v 0 false) (plain-is x (s .copy))
         (record {
           opened = still-opened x (s .copy) refl refl refl;
-          kept = λ none live. absurd (a (right (m .kept none live .last)));
+          kept = λ none live same-last. absurd (a (right same-last));
+          some = λ z. absurd (omega (arith, i .0, i .1, z));
         }))
 
     pub chunk-inv : (o .answer ≡ success → length (o .bytes) ≡ block * n)

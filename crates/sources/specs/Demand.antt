@@ -66,13 +66,13 @@ module _ (D : Source) (p : Plan) (K : Keeps D p) where
   same-ending : {e f : Finish} → Ends e ≡ Ends f → e ≡ f
   same-ending q = cc
 
-  bound : (k most : ℕ) (s : Stand D) → Common D p K s → Reached most (s .collection) → s .counts .captures ≤ k → s .collection .count ≤ mostCommands p k most
+  bound : (k most : ℕ) (s : Stand D) → Common D p K s → Reached most (s .collection) → s .counts .changes ≤ k → s .collection .count ≤ mostCommands p k most
   bound k most s c r h =
       let a : s .collection .attempt .number ≤ k + 1 = omega (arith, c .tries) in
       let n : s .collection .count ≤ 1 + s .collection .attempt .number * (most + 1) + acknowledging p = rw (c .plan) at (reached-count most (s .collection) r) in
       omega (arith, n, mul-le-mul-right (most + 1) a)
 
-  pub promises : (k : ℕ) (s : Stand D) → Inv D p K s → s .counts .captures ≤ k → Promise D p K k s
+  pub promises : (k : ℕ) (s : Stand D) → Inv D p K s → s .counts .changes ≤ k → Promise D p K k s
   promises k s i h =
       let c = i .common in
       record {
@@ -120,14 +120,14 @@ module _ (D : Source) (p : Plan) (K : Keeps D p) where
     ends e k b r few long (Ends x) q = record { ending = x; said = q }
     ends e k b r few long (Refuse n) q = absurd (r .never n q)
 
-    -- A collection that setup takes, into a copy of its room, from a good source, with at most k captures after its first command, k being less
-    -- than 256 and than the attempts, and none of its commands refused for lent data: the promise, and that it ends, by any bound b of its count.
-    pub demand : setupAnswer p ≡ success → length copy ≡ p .room → K .Good d → (k : ℕ) → k ≤ 255 → k < p .attempts → final .counts .captures ≤ k → final .counts .lentRefusals ≡ 0
+    -- A collection that setup takes, into a copy of its room, from a good source, with at most k captures and drops after its first command, k
+    -- being less than 256 and than the attempts, and none of its commands refused for lent data: the promise, and that it ends, by any bound b of its count.
+    pub demand : setupAnswer p ≡ success → length copy ≡ p .room → K .Good d → (k : ℕ) → k ≤ 255 → k < p .attempts → final .counts .changes ≤ k → final .counts .lentRefusals ≡ 0
         → Promise D p K k final × ((b : ℕ) → final .collection .count ≤ b → b ≤ 1 + length ts → Finished D final)
     unfolding awaitedOf
     demand e l g k few more h none =
         let q = final-is e in
-        let h′ : run ours D ts start .counts .captures ≤ k = subst (λ (s : Stand D). s .counts .captures ≤ k) q h in
+        let h′ : run ours D ts start .counts .changes ≤ k = subst (λ (s : Stand D). s .counts .changes ≤ k) q h in
         let none′ : run ours D ts start .counts .lentRefusals ≡ 0 = subst (λ (s : Stand D). s .counts .lentRefusals ≡ 0) q none in
         let fair = first-fair e none in
         let i : Inv D p K (run ours D ts start) = run-inv D p K k few more ts start (opened copy d first e l g fair) h′ none′ in

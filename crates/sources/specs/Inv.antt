@@ -29,19 +29,23 @@ module _ (D : Source) (p : Plan) (K : Keeps D p) where
     pub house : Reached most4 (s .collection)
     pub reached : Reached (mostChunks p (s .headers)) (s .collection)
     pub counted : s .collection .count ≡ length (s .sent)
-    -- a failed attempt saw a capture
-    pub tries : s .collection .attempt .number + s .counts .since ≤ s .counts .captures + 1
+    -- a failed attempt saw a capture or a drop
+    pub tries : s .collection .attempt .number + s .counts .since + s .counts .drops ≤ s .counts .changes + 1
 
   -- ---- in an attempt
 
   -- the page is still the one that the attempt's header showed, no chunk was refused, and the first blocks are in the copy
   pub record Still (s : Stand D) (done : ℕ) (served : Bool) : Type 0 where
-    pub last : K .shows (s .source) .last ≡ s .collection .attempt .last
     pub area : K .area (s .source) ≡ K .area (s .checked)
     pub whole : served ≡ true
     pub filled : take (block * done) (s .copy) ≡ take (block * done) (K .area (s .checked))
 
-  -- the attempt's header is the last one that was judged, and the generation moved on by the captures since
+  -- the last blocks are those of the attempt's header
+  abbrev pub SameLast : Stand D → Type 0
+  SameLast s = K .shows (s .source) .last ≡ s .collection .attempt .last
+
+  -- the attempt's header is the last one that was judged; the generation moved on by the captures since, and with neither a capture nor a drop the last
+  -- blocks of a page that has data are its own
   pub record Opened (s : Stand D) : Type 0 where
     pub said : s .said ≡ Send (awaitedOf (s .collection))
     pub generation : s .collection .attempt .generation ≡ K .shows (s .checked) .generation
@@ -50,11 +54,14 @@ module _ (D : Source) (p : Plan) (K : Keeps D p) where
     pub here : K .Good (s .source)
     pub live : showsNone p (K .shows (s .checked)) ≡ false
     pub gens : K .shows (s .source) .generation ≡ (s .collection .attempt .generation + s .counts .since) % 256
+    pub stays : s .counts .since ≡ 0 → s .counts .drops ≡ 0 → showsNone p (K .shows (s .source)) ≡ false → SameLast s
     pub begun : 2 ≤ length (s .sent)
 
+  -- with no capture since and the same last blocks the page is the same, whether it was dropped or not: an area of no blocks asks for no chunk
   pub record Mid (s : Stand D) (done : ℕ) (served : Bool) : Type 0 where
     pub opened : Opened s
-    pub kept : s .counts .since ≡ 0 → showsNone p (K .shows (s .source)) ≡ false → Still s done served
+    pub kept : s .counts .since ≡ 0 → showsNone p (K .shows (s .source)) ≡ false → SameLast s → Still s done served
+    pub some : areaLast p (s .collection .attempt .last) ≡ 0 → (done ≡ 0) × (served ≡ true)
 
   -- the copy stands, and the acknowledgement is awaited
   pub record Had (s : Stand D) : Type 0 where

@@ -8,12 +8,13 @@ use native.Mathlib.Omega.{arith}
 use lib.ListN.{length, take, length-append}
 use lib.Seq.{take-all}
 use lib.Dec.{eqb}
-use borrow.Author.Tests.{leb-false, eq-eqb, eqb-true, eqb-false}
-use Rattle.choices.specs.Tests.{by-test, clash}
+use borrow.Author.Tests.{leb-false, eq-eqb, eqb-true}
+use Rattle.choices.specs.Tests.{by-test, clash, and-left, and-right, same-or-not}
 use Rattle.copies.specs.Parts.{zeros}
 use Rattle.answers.specs.Answers.{success}
 use Rattle.header.specs.Header.{faultless}
-use Rattle.pages.specs.Pages.{controllerPage}
+use Rattle.pages.specs.Pages.{controllerPage, sameLast}
+use Rattle.pages.specs.Laws.{same-itself, same-last}
 use Rattle.words.specs.declared.Words.{Words}
 use Rattle.plans.specs.declared.Plan.{Plan}
 use Rattle.plans.specs.declared.Phase.{Phase}
@@ -34,7 +35,7 @@ use Rattle.runs.specs.Bound.{look-header}
 use Rattle.sources.specs.Source.{Source, ours, Done, Stand, fine, dataOf, stepped, hears}
 use Rattle.sources.specs.Keeps.{Keeps, Header}
 use Rattle.sources.specs.Promise.{Told, succeeded, lacked, withdrew, empty}
-use Rattle.sources.specs.Inv.{Common, Still, Opened, Mid, Had, Inv}
+use Rattle.sources.specs.Inv.{Common, Still, SameLast, Opened, Mid, Had, Inv}
 use Rattle.sources.specs.Heard.{takes, header-block, header-going, at-phase, step, copied, finish, zeroed, ended}
 
 header-no-chunk : (f : Phase) (at : ℕ) → judgedBy f ≡ true → f ≡ Chunk at → ⊥
@@ -83,7 +84,7 @@ module _ (D : Source) (p : Plan) (K : Keeps D p) (s : Stand D) (o : Done (D .Sta
     sent = stepped D s o x y .sent;
     headers = dataOf o ∷ s .headers;
     checked = o .source;
-    counts = record { since = 0; captures = s .counts .captures; lentRefusals = stepped D s o x y .counts .lentRefusals };
+    counts = record { since = 0; drops = 0; changes = s .counts .changes; lentRefusals = stepped D s o x y .counts .lentRefusals };
   }
 
   judged-is : (x : Stepped) (y : List ℕ) → judged x y ≡ stepped D s o x y
@@ -92,7 +93,7 @@ module _ (D : Source) (p : Plan) (K : Keeps D p) (s : Stand D) (o : Done (D .Sta
   -- ---- endings
 
   -- the area is larger than the copy
-  large : (next : Bool) → fitsRoom p (h .last) ≡ false → numberIn state next ≤ s .counts .captures + 1 → step D p K s o ≡ ends (endedIn state next) NoRoom
+  large : (next : Bool) → fitsRoom p (h .last) ≡ false → numberIn state next ≤ s .counts .changes + 1 → step D p K s o ≡ ends (endedIn state next) NoRoom
       → Inv D p K (hears ours D s o)
   unfolding fitsRoom
   large next r t ex =
@@ -105,7 +106,7 @@ module _ (D : Source) (p : Plan) (K : Keeps D p) (s : Stand D) (o : Done (D .Sta
   one-more : (x : Stepped) (w : Words) → x .next ≡ Send w → 1 ≤ length (s .sent) → 2 ≤ length (stepped D s o x [] .sent)
   one-more x w e l = rw e (omega (arith, length-append (s .sent) (w ∷ [])))
 
-  opens : (next : Bool) → showsNone p h ≡ false → 1 ≤ length (s .sent) → numberIn state next ≤ s .counts .captures + 1
+  opens : (next : Bool) → showsNone p h ≡ false → 1 ≤ length (s .sent) → numberIn state next ≤ s .counts .changes + 1
       → step D p K s o ≡ sends (openedBy state next h) → Inv D p K (hears ours D s o)
   unfolding awaitedOf
   opens next live some t ex =
@@ -123,9 +124,11 @@ module _ (D : Source) (p : Plan) (K : Keeps D p) (s : Stand D) (o : Done (D .Sta
           here = good;
           live = live;
           gens = omega arith;
+          stays = λ none whole l. refl;
           begun = one-more x (awaitedOf (openedBy state next h)) refl some;
         };
-        kept = λ none l. record { last = refl; area = refl; whole = refl; filled = refl };
+        kept = λ none l same. record { area = refl; whole = refl; filled = refl };
+        some = λ z. (refl, refl);
       } in
       finish D p K s o x (s .copy) ex same c (rw f (omega arith))
       (at-phase D p K (stepped D s o x (s .copy)) 1 0 (areaLast (state .plan) (h .last)) (ap (λ (q : Plan). areaLast q (h .last)) (c .plan)) (λ l. refl) (λ l. omega arith)
@@ -150,7 +153,7 @@ module _ (D : Source) (p : Plan) (K : Keeps D p) (s : Stand D) (o : Done (D .Sta
   -- ---- a header that closes an attempt: m is what was known before it
 
   module _ (cl : closingBy (state .phase) ≡ true) (op : Opened D p K s) (same : o .source ≡ s .source)
-      (stood : s .counts .since ≡ 0 → showsNone p (K .shows (s .source)) ≡ false → (refusedBy (state .phase) ≡ false) × Still D p K s (areaLast p (state .attempt .last)) true) where
+      (stood : s .counts .since ≡ 0 → showsNone p (K .shows (s .source)) ≡ false → SameLast D p K s → (refusedBy (state .phase) ≡ false) × Still D p K s (areaLast p (state .attempt .last)) true) where
     some : 1 ≤ length (s .sent)
     some = omega (arith, op .begun)
 
@@ -168,14 +171,27 @@ module _ (D : Source) (p : Plan) (K : Keeps D p) (s : Stand D) (o : Done (D .Sta
         (withdrew refl refl n (omega (arith, op .begun, length-append (s .sent) []))))
 
     module _ (n : showsNone p h ≡ false) where
-      match-is : (t : Bool) → eqb (h .generation) (state .attempt .generation) ≡ t → matches (state .attempt) (lookOf state (dataOf o)) ≡ t
+      match-is : (t : Bool) → matches (state .attempt) h ≡ t → matches (state .attempt) (lookOf state (dataOf o)) ≡ t
       match-is t e = rw look e
 
-      -- the generation is another one
-      mismatch : s .counts .captures < p .attempts → eqb (h .generation) (state .attempt .generation) ≡ false → Inv D p K (hears ours D s o)
+      -- with neither a capture nor a drop it matches
+      unmoved : s .counts .since ≡ 0 → s .counts .drops ≡ 0 → matches (state .attempt) h ≡ true
+      unmoved none whole =
+          let g : h .generation ≡ state .attempt .generation = omega (arith, none, moved, low) in
+          let l : h .last ≡ state .attempt .last = ap (λ (d : D .State). K .shows d .last) same ∙ op .stays none whole (rw (← same) n) in
+          rw (eq-eqb (h .generation) (state .attempt .generation) g, l) (same-itself (state .attempt .last))
+
+      changed : matches (state .attempt) h ≡ false → 1 ≤ s .counts .since + s .counts .drops
+      changed e =
+          same-or-not (s .counts .since) 0
+          (λ none. same-or-not (s .counts .drops) 0 (λ whole. clash (unmoved none whole) e) (λ dropped. omega (arith, dropped)))
+          (λ moved. omega (arith, moved))
+
+      -- it is no match
+      mismatch : s .counts .changes < p .attempts → matches (state .attempt) h ≡ false → Inv D p K (hears ours D s o)
       mismatch more e =
-          let hit : 1 ≤ s .counts .since = omega (arith, eqb-false (h .generation) (state .attempt .generation) e, moved, low) in
-          let t : state .attempt .number + 1 ≤ s .counts .captures + 1 = omega (arith, c .tries) in
+          let hit = changed e in
+          let t : state .attempt .number + 1 ≤ s .counts .changes + 1 = omega (arith, c .tries) in
           let left : state .attempt .number < state .plan .attempts = rw (c .plan) (omega arith) in
           by-test (fitsRoom p (h .last))
           (λ r. opens true n some t
@@ -184,10 +200,19 @@ module _ (D : Source) (p : Plan) (K : Keeps D p) (s : Stand D) (o : Done (D .Sta
           (λ r. large true r t
           (later-large state (fine o) (dataOf o) (length (s .copy)) taken cl is-fine sound (none-is false n) (match-is false e) left (fits-is false r)))
 
-      -- the generation is the attempt's
-      module _ (e : eqb (h .generation) (state .attempt .generation) ≡ true) (refused : refusedBy (state .phase) ≡ false) (k : Still D p K s (areaLast p (state .attempt .last)) true) where
+      -- it is a match: generation and last blocks are the attempt's
+      module _ (e : matches (state .attempt) h ≡ true) where
+        same-generation : h .generation ≡ state .attempt .generation
+        same-generation = eqb-true (h .generation) (state .attempt .generation) (and-left _ (sameLast (h .last) (state .attempt .last)) e)
+
+        same-blocks : h .last ≡ state .attempt .last
+        same-blocks =
+            same-last (h .last) (state .attempt .last) (K .four (o .source) good) (ap length (op .last) ∙ K .four (s .checked) (op .good))
+            (and-right (eqb (h .generation) (state .attempt .generation)) _ e)
+
+      module _ (e : matches (state .attempt) h ≡ true) (refused : refusedBy (state .phase) ≡ false) (k : Still D p K s (areaLast p (state .attempt .last)) true) where
         last-is : state .attempt .last ≡ h .last
-        last-is = sym (k .last) ∙ ap (λ (d : D .State). K .shows d .last) (sym same)
+        last-is = sym (same-blocks e)
 
         filled : take (areaBytes p (state .attempt .last)) (s .copy) ≡ K .area (o .source)
         filled =
@@ -206,7 +231,7 @@ module _ (D : Source) (p : Plan) (K : Keeps D p) (s : Stand D) (o : Done (D .Sta
             sending-copy state (fine o) (dataOf o) (s .copy) (awaitedOf (inPhase state Ack)) (ap (λ (y : Stepped). y .next) ex)
             (λ at q z. header-no-chunk (state .phase) at f q) in
             let b = K .byte (o .source) good in
-            let g = eqb-true (h .generation) (state .attempt .generation) e in
+            let g = same-generation e in
             finish D p K s o x (s .copy) ex still c (rw f (omega (arith, c .tries)))
             (subst (λ (z : Stand D). Had D p K z) (judged-is x (s .copy))
             (record {
@@ -218,6 +243,7 @@ module _ (D : Source) (p : Plan) (K : Keeps D p) (s : Stand D) (o : Done (D .Sta
                 here = good;
                 live = n;
                 gens = omega arith;
+                stays = λ none whole l. sym last-is;
                 begun = one-more x (awaitedOf (inPhase state Ack)) refl some;
               };
               filled = filled;
@@ -239,13 +265,13 @@ module _ (D : Source) (p : Plan) (K : Keeps D p) (s : Stand D) (o : Done (D .Sta
         stands : Inv D p K (hears ours D s o)
         stands = by-test (eqb (p .page) controllerPage) (λ t. acknowledges t) (λ t. done t)
 
-    pub closing-inv : s .counts .since ≤ 255 → s .counts .captures < p .attempts → Inv D p K (hears ours D s o)
+    pub closing-inv : s .counts .since ≤ 255 → s .counts .changes < p .attempts → Inv D p K (hears ours D s o)
     closing-inv few more =
         by-test (showsNone p h)
         (λ n. gone n)
-        (λ n. by-test (eqb (h .generation) (state .attempt .generation))
+        (λ n. by-test (matches (state .attempt) h)
         (λ e.
-        let none : s .counts .since ≡ 0 = omega (arith, eqb-true (h .generation) (state .attempt .generation) e, moved, low) in
-        let k = stood none (rw (← same) n) in
+        let none : s .counts .since ≡ 0 = omega (arith, same-generation n e, moved, low) in
+        let k = stood none (rw (← same) n) (ap (λ (d : D .State). K .shows d .last) (sym same) ∙ same-blocks n e) in
         stands n e (k .0) (k .1))
         (λ e. mismatch n more e))

@@ -1,10 +1,11 @@
 -- All that a collection relies on of a source: where demand 2 meets demand 3. p is the collection's plan.
 -- Assumes nothing.
-use Prim.Native.Nat.{ℕ, _+_, _-_, _*_, _%_, _<_}
+use Prim.Native.Nat.{ℕ, _+_, _-_, _*_, _%_, _≤_, _<_}
 use mathlib.Core.Path.{_≡_}
 use mathlib.Core.List.{List}
 use mathlib.Core.Bool.{true, false}
 use lib.ListN.{length, take, drop}
+use Rattle.copies.specs.Parts.{zeros}
 use Rattle.answers.specs.Answers.{success}
 use Rattle.pages.specs.Pages.{block}
 use Rattle.header.specs.Header.{faultless}
@@ -34,11 +35,14 @@ pub record Keeps (D : Source) (p : Plan) : Type 1 where
   pub area : D .State → List ℕ
   pub sound : (d : D .State) → Good d → faultless (shows d .fault) ≡ true
   pub byte : (d : D .State) → Good d → shows d .generation < 256
+  pub four : (d : D .State) → Good d → length (shows d .last) ≡ 4
   pub long : (d : D .State) → Good d → length (area d) ≡ areaBytes p (shows d .last)
-  -- a capture moves the generation on by one; where there is none, a page that has data still is as it was
+  -- a capture moves the generation on by one, and nothing else does; a drop empties the page; where there is neither, a page that has data still is
+  -- as it was
   pub act-good : (e : D .Event) (d : D .State) → Good d → Good (D .act e d)
   pub moves : (e : D .Event) (d : D .State) → Good d → shows (D .act e d) .generation ≡ (shows d .generation + D .captures e d) % 256
-  pub quiet : (e : D .Event) (d : D .State) → Good d → D .captures e d ≡ 0 → showsNone p (shows (D .act e d)) ≡ false
+  pub empties : (e : D .Event) (d : D .State) → Good d → 1 ≤ D .drops e d → shows (D .act e d) .last ≡ zeros 4
+  pub quiet : (e : D .Event) (d : D .State) → Good d → D .captures e d ≡ 0 → D .drops e d ≡ 0 → showsNone p (shows (D .act e d)) ≡ false
       → (showsNone p (shows d) ≡ false) × (shows (D .act e d) .last ≡ shows d .last) × (area (D .act e d) ≡ area d)
   -- the first command brings the header of the source as it leaves it
   pub first : (l : D .Lent) (last : List ℕ) (d : D .State) → Good d → forLent (asks D p First l last d .answer) ≡ false

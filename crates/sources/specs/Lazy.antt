@@ -22,7 +22,7 @@ use Rattle.sources.specs.Keeps.{Keeps}
 module _ (D : Source) where
   -- with another answer to every command
   abbrev answering : (D .State → Done (D .State)) → Source
-  answering f = record { State = D .State; Event = D .Event; Lent = D .Lent; act = D .act; captures = D .captures; command = λ l w d. f d }
+  answering f = record { State = D .State; Event = D .Event; Lent = D .Lent; act = D .act; captures = D .captures; drops = D .drops; command = λ l w d. f d }
 
   -- it refuses everything
   abbrev pub refusing : Source
@@ -51,9 +51,13 @@ module _ (D : Source) where
       let r = K .first l [] d g refl in
       no-header p (ap (λ (h : Seen). faultless (h .fault)) (r .0 .seen) ∙ K .sound d (r .1))
 
-  -- it captures nothing: what is counted as a capture leaves it as it is
+  -- it captures nothing and drops nothing: what is counted as a capture or a drop leaves it as it is
   abbrev pub idle : Source
-  idle = record { State = D .State; Event = D .Event; Lent = D .Lent; act = λ e d. d; captures = D .captures; command = D .command }
+  idle = record { State = D .State; Event = D .Event; Lent = D .Lent; act = λ e d. d; captures = D .captures; drops = D .drops; command = D .command }
 
   pub captures-nothing : (p : Plan) (K : Keeps idle p) (e : D .Event) (d : D .State) → D .captures e d ≡ 1 → K .Good d → ⊥
   captures-nothing p K e d one g = omega (arith, K .moves e d g, K .byte d g, one)
+
+  -- nor does one that drops nothing, if it has a block to drop
+  pub drops-nothing : (p : Plan) (K : Keeps idle p) (e : D .Event) (d : D .State) → D .drops e d ≡ 1 → K .Good d → (K .shows d .last ≡ zeros 4 → ⊥) → ⊥
+  drops-nothing p K e d one g some = some (K .empties e d g (omega (arith, one)))

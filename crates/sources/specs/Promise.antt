@@ -23,7 +23,7 @@ pub record Finished (D : Source) (s : Stand D) : Type 0 where
   pub ending : Finish
   pub said : s .said ≡ Ends ending
 
--- the most commands of a run with k captures at most, C being the chunks: 1 + (k + 1)(C + 1), one more on 08h
+-- the most commands of a run with k captures and drops at most, C being the chunks: 1 + (k + 1)(C + 1), one more on 08h
 abbrev pub mostCommands : Plan → ℕ → ℕ → ℕ
 mostCommands p k chunks = 1 + (k + 1) * (chunks + 1) + acknowledging p
 
@@ -41,7 +41,7 @@ module _ (D : Source) (p : Plan) (K : Keeps D p) where
     withdrew : e .ending ≡ Withdrawn → s .copy ≡ zeros (p .room) → showsNone p (K .shows (s .checked)) ≡ true → 2 ≤ length (s .sent) → Told e s
     empty : e .ending ≡ Nothing → s .copy ≡ zeros (p .room) → showsNone p (K .shows (s .checked)) ≡ true → length (s .sent) ≡ 1 → Told e s
 
-  -- of a run with k captures at most
+  -- of a run with k captures and drops at most
   pub record Promise (k : ℕ) (s : Stand D) : Type 0 where
     -- the count is the length of the record, and within that number, C being the most chunks that a header of the run calls for, and also with C at
     -- the house limit

@@ -26,13 +26,15 @@ pub record Done (S : Type 0) : Type 0 where
   pub bytes : List ℕ
   pub source : S
 
--- what may happen to a source and how many captures of the page collected that makes, and its answer to a command with what is lent to it
+-- what may happen to a source, how many captures and how many drops of the page collected that makes, and its answer to a command with what is lent
+-- to it
 pub record Source : Type 1 where
   pub State : Type 0
   pub Event : Type 0
   pub Lent : Type 0
   pub act : Event → State → State
   pub captures : Event → State → ℕ
+  pub drops : Event → State → ℕ
   pub command : Lent → Words → State → Done State
 
 -- ---- a collector
@@ -54,20 +56,22 @@ pub record Turn (D : Source) : Type 0 where
   pub events : List (D .Event)
   pub lent : D .Lent
 
--- what is counted of a run: the captures since the last header that was judged and since the first command, and how many commands of the run were
--- refused for lent data
+-- what is counted of a run: the captures and the drops since the last header that was judged, both together since the first command, and how many
+-- commands of the run were refused for lent data
 pub record Counters : Type 0 where
   pub since : ℕ
-  pub captures : ℕ
+  pub drops : ℕ
+  pub changes : ℕ
   pub lentRefusals : ℕ
 
--- n captures more
-abbrev pub captured : ℕ → Counters → Counters
-captured n c = record { since = c .since + n; captures = c .captures + n; lentRefusals = c .lentRefusals }
+-- n captures and m drops more
+abbrev pub changed : ℕ → ℕ → Counters → Counters
+changed n m c = record { since = c .since + n; drops = c .drops + m; changes = c .changes + n + m; lentRefusals = c .lentRefusals }
 
 -- a completion, which judges a header or not and is a refusal for lent data or not
 abbrev pub heard : Bool → Bool → Counters → Counters
-heard judged lent c = record { since = pick judged 0 (c .since); captures = c .captures; lentRefusals = c .lentRefusals + pick lent 1 0 }
+heard judged lent c =
+    record { since = pick judged 0 (c .since); drops = pick judged 0 (c .drops); changes = c .changes; lentRefusals = c .lentRefusals + pick lent 1 0 }
 
 -- where a run stands: the collection, what setup or the last step said, the copy and the source; and what the promise speaks of: the commands
 -- given, in order, the data of the headers that were judged, the last one first, the source as it stood at that one, and what is counted
@@ -103,7 +107,7 @@ module _ (D : Source) where
     sent = s .sent;
     headers = s .headers;
     checked = s .checked;
-    counts = captured (D .captures e (s .source)) (s .counts);
+    counts = changed (D .captures e (s .source)) (D .drops e (s .source)) (s .counts);
   }
 
   -- and one thing after another
@@ -154,7 +158,7 @@ module _ (C : Collector) (D : Source) where
     sent = given (C .setup p .next);
     headers = [];
     checked = d;
-    counts = record { since = 0; captures = 0; lentRefusals = 0 };
+    counts = record { since = 0; drops = 0; changes = 0; lentRefusals = 0 };
   }
 
   -- the whole run: the first command with what it is lent, and then the turns

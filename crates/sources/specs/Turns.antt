@@ -23,7 +23,7 @@ use Rattle.runs.specs.Run.{given}
 use Rattle.runs.specs.Counted.{step-counts}
 use Rattle.sources.specs.Source.{Source, ours, Done, Turn, Stand, forLent, fine, dataOf, happens, happen, hears, turnBy, run}
 use Rattle.sources.specs.Keeps.{Keeps, Header}
-use Rattle.sources.specs.Inv.{Common, Still, Opened, Over, At, Inv}
+use Rattle.sources.specs.Inv.{Common, Still, SameLast, Opened, Over, At, Inv}
 use Rattle.sources.specs.Happened.{happen-inv}
 use Rattle.sources.specs.Judged.{closing-inv}
 use Rattle.sources.specs.Chunks.{chunk-inv, ack-inv}
@@ -33,31 +33,31 @@ module _ (D : Source) (p : Plan) (K : Keeps D p) where
 
   -- a header that closes an attempt
   closes : (f : Phase) → closingBy f ≡ true → judgedBy f ≡ true → (s : Stand D) (l : D .Lent) → Common D p K s → s .collection .phase ≡ f → Opened D p K s
-      → (s .counts .since ≡ 0 → showsNone p (K .shows (s .source)) ≡ false → (refusedBy f ≡ false) × Still D p K s (areaLast p (s .collection .attempt .last)) true)
-      → s .counts .since ≤ 255 → s .counts .captures < p .attempts → forLent (D .command l (wordsBy f p (s .collection .attempt .last)) (s .source) .answer) ≡ false
+      → (s .counts .since ≡ 0 → showsNone p (K .shows (s .source)) ≡ false → SameLast D p K s → (refusedBy f ≡ false) × Still D p K s (areaLast p (s .collection .attempt .last)) true)
+      → s .counts .since ≤ 255 → s .counts .changes < p .attempts → forLent (D .command l (wordsBy f p (s .collection .attempt .last)) (s .source) .answer) ≡ false
       → Inv D p K (hears ours D s (D .command l (wordsBy f p (s .collection .attempt .last)) (s .source)))
   closes f cl hd s l c e op stood few more fair =
       let o : Done (D .State) = D .command l (wordsBy f p (s .collection .attempt .last)) (s .source) in
       let r = K .closing f cl l (s .collection .attempt .last) (s .source) (op .here) fair in
       let same : o .source ≡ s .source = r .1 in
       closing-inv D p K s o c (rw e hd) (subst (λ (d : D .State). Header p o (K .shows d)) (sym same) (r .0)) (subst (λ (d : D .State). K .Good d) (sym same) (op .here)) (rw e cl) op same
-      (λ none live. let k = stood none live in (ap refusedBy e ∙ k .0, k .1)) few more
+      (λ none live last. let k = stood none live last in (ap refusedBy e ∙ k .0, k .1)) few more
 
   own-by : (f : Phase) (s : Stand D) (l : D .Lent) → Common D p K s → s .collection .phase ≡ f → At D p K f s → endedBy f ≡ false
-      → s .counts .since ≤ 255 → s .counts .captures < p .attempts → forLent (D .command l (wordsBy f p (s .collection .attempt .last)) (s .source) .answer) ≡ false
+      → s .counts .since ≤ 255 → s .counts .changes < p .attempts → forLent (D .command l (wordsBy f p (s .collection .attempt .last)) (s .source) .answer) ≡ false
       → Inv D p K (hears ours D s (D .command l (wordsBy f p (s .collection .attempt .last)) (s .source)))
   own-by First s l c e a g few more fair = absurd a
   own-by (Chunk at) s l c e a g few more fair =
       let r = K .chunk at l (s .collection .attempt .last) (s .source) (a .opened .here) (rw (c .plan) at (c .house .room)) (rw (c .plan, e) at (c .house .inside)) fair in
       chunk-inv D p K s (D .command l (wordsBy (Chunk at) p (s .collection .attempt .last)) (s .source)) c at e a (r .0) (r .1) (r .2)
-  own-by (Close false) s l c e a g few more fair = closes (Close false) refl refl s l c e (a .opened) (λ none live. (refl, a .kept none live)) few more fair
+  own-by (Close false) s l c e a g few more fair = closes (Close false) refl refl s l c e (a .opened) (λ none live last. (refl, a .kept none live last)) few more fair
   own-by (Close true) s l c e a g few more fair =
-      closes (Close true) refl refl s l c e (a .opened) (λ none live. clash {t = true} refl (sym (a .kept none live .whole))) few more fair
+      closes (Close true) refl refl s l c e (a .opened) (λ none live last. clash {t = true} refl (sym (a .kept none live last .whole))) few more fair
   own-by Ack s l c e a g few more fair =
       ack-inv D p K s (D .command l (wordsBy Ack p (s .collection .attempt .last)) (s .source)) c e a (K .ack l (s .collection .attempt .last) (s .source) (a .opened .here) fair) few
   own-by Ended s l c e a g few more fair = clash {t = true} refl g
 
-  own-inv : (s : Stand D) (l : D .Lent) → Inv D p K s → endedBy (s .collection .phase) ≡ false → s .counts .since ≤ 255 → s .counts .captures < p .attempts
+  own-inv : (s : Stand D) (l : D .Lent) → Inv D p K s → endedBy (s .collection .phase) ≡ false → s .counts .since ≤ 255 → s .counts .changes < p .attempts
       → forLent (D .command l (awaitedOf (s .collection)) (s .source) .answer) ≡ false
       → Inv D p K (hears ours D s (D .command l (awaitedOf (s .collection)) (s .source)))
   unfolding awaitedOf
@@ -74,13 +74,13 @@ module _ (D : Source) (p : Plan) (K : Keeps D p) where
   happen-state [] s = refl
   happen-state (e ∷ es) s = happen-state es (happens D e s)
 
-  -- captures and refusals for lent data only grow
-  happen-grows : (es : List (D .Event)) (s : Stand D) → (s .counts .captures ≤ happen D es s .counts .captures) × (s .counts .lentRefusals ≤ happen D es s .counts .lentRefusals)
+  -- captures, drops and refusals for lent data only grow
+  happen-grows : (es : List (D .Event)) (s : Stand D) → (s .counts .changes ≤ happen D es s .counts .changes) × (s .counts .lentRefusals ≤ happen D es s .counts .lentRefusals)
   unfolding happen happens
   happen-grows [] s = (omega arith, omega arith)
   happen-grows (e ∷ es) s = let h = happen-grows es (happens D e s) in (omega (arith, h .0), omega (arith, h .1))
 
-  hears-grows : (s : Stand D) (o : Done (D .State)) → (s .counts .captures ≡ hears ours D s o .counts .captures) × (s .counts .lentRefusals ≤ hears ours D s o .counts .lentRefusals)
+  hears-grows : (s : Stand D) (o : Done (D .State)) → (s .counts .changes ≡ hears ours D s o .counts .changes) × (s .counts .lentRefusals ≤ hears ours D s o .counts .lentRefusals)
   unfolding hears
   hears-grows s o = (refl, omega arith)
 
@@ -89,7 +89,7 @@ module _ (D : Source) (p : Plan) (K : Keeps D p) where
   unfolding hears
   no-lent-refusal s o = pick-cases (λ (n : ℕ). s .counts .lentRefusals + n ≡ 0 → forLent (o .answer) ≡ false) (forLent (o .answer)) (λ e z. absurd (omega arith)) (λ e z. e)
 
-  turn-grows : (n : Next) (t : Turn D) (s : Stand D) → (s .counts .captures ≤ turnBy ours D n t s .counts .captures) × (s .counts .lentRefusals ≤ turnBy ours D n t s .counts .lentRefusals)
+  turn-grows : (n : Next) (t : Turn D) (s : Stand D) → (s .counts .changes ≤ turnBy ours D n t s .counts .changes) × (s .counts .lentRefusals ≤ turnBy ours D n t s .counts .lentRefusals)
   turn-grows (Send w) t s =
       let a = happen-grows (t .events) s in
       let b = hears-grows (happen D (t .events) s) (D .command (t .lent) w (happen D (t .events) s .source)) in
@@ -97,7 +97,7 @@ module _ (D : Source) (p : Plan) (K : Keeps D p) where
   turn-grows (Ends e) t s = (omega arith, omega arith)
   turn-grows (Refuse n) t s = (omega arith, omega arith)
 
-  pub run-grows : (ts : List (Turn D)) (s : Stand D) → (s .counts .captures ≤ run ours D ts s .counts .captures) × (s .counts .lentRefusals ≤ run ours D ts s .counts .lentRefusals)
+  pub run-grows : (ts : List (Turn D)) (s : Stand D) → (s .counts .changes ≤ run ours D ts s .counts .changes) × (s .counts .lentRefusals ≤ run ours D ts s .counts .lentRefusals)
   unfolding run
   run-grows [] s = (omega arith, omega arith)
   run-grows (t ∷ ts) s =
@@ -105,8 +105,8 @@ module _ (D : Source) (p : Plan) (K : Keeps D p) where
       let b = run-grows ts (turnBy ours D (s .said) t s) in
       (omega (arith, a .0, b .0), omega (arith, a .1, b .1))
 
-  -- the captures since the last header are among those since the first command
-  since-few : (s : Stand D) → Common D p K s → s .counts .since ≤ s .counts .captures
+  -- the captures since the last header are among the changes since the first command
+  since-few : (s : Stand D) → Common D p K s → s .counts .since ≤ s .counts .changes
   since-few s c = omega (arith, c .tries, c .house .low)
 
   -- what is awaited is sent, and at the end nothing is
@@ -133,7 +133,7 @@ module _ (D : Source) (p : Plan) (K : Keeps D p) where
     stays g = subst (λ (n : Next). Inv D p K (turnBy ours D n t s)) (sym (over-by (s .collection .phase) s (i .now) g .said)) i
 
     -- few captures since the last header, and an attempt left
-    goes : endedBy (s .collection .phase) ≡ false → before .counts .since ≤ 255 → before .counts .captures < p .attempts → turnBy ours D (s .said) t s .counts .lentRefusals ≡ 0
+    goes : endedBy (s .collection .phase) ≡ false → before .counts .since ≤ 255 → before .counts .changes < p .attempts → turnBy ours D (s .said) t s .counts .lentRefusals ≡ 0
         → Inv D p K (turnBy ours D (s .said) t s)
     goes g few more none =
         let said = said-by (s .collection .phase) s (i .now) g in
@@ -143,24 +143,24 @@ module _ (D : Source) (p : Plan) (K : Keeps D p) where
         subst (λ (n : Next). Inv D p K (turnBy ours D n t s)) (sym said)
         (rw w at (own-inv before (t .lent) (happen-inv D p K (t .events) s g i) (rw st g) few more (rw w fair)))
 
-    turn-captures : endedBy (s .collection .phase) ≡ false → before .counts .captures ≡ turnBy ours D (s .said) t s .counts .captures
-    turn-captures g =
+    turn-changes : endedBy (s .collection .phase) ≡ false → before .counts .changes ≡ turnBy ours D (s .said) t s .counts .changes
+    turn-changes g =
         let said = said-by (s .collection .phase) s (i .now) g in
-        subst (λ (n : Next). before .counts .captures ≡ turnBy ours D n t s .counts .captures) (sym said)
+        subst (λ (n : Next). before .counts .changes ≡ turnBy ours D n t s .counts .changes) (sym said)
         (hears-grows before (D .command (t .lent) (awaitedOf (s .collection)) (before .source)) .0)
 
-    -- k bounds the captures of the whole run, so those of each attempt too
-    turn-inv : (k : ℕ) → k ≤ 255 → k < p .attempts → turnBy ours D (s .said) t s .counts .captures ≤ k → turnBy ours D (s .said) t s .counts .lentRefusals ≡ 0 → Inv D p K (turnBy ours D (s .said) t s)
+    -- k bounds the captures and drops of the whole run, so the captures of each attempt too
+    turn-inv : (k : ℕ) → k ≤ 255 → k < p .attempts → turnBy ours D (s .said) t s .counts .changes ≤ k → turnBy ours D (s .said) t s .counts .lentRefusals ≡ 0 → Inv D p K (turnBy ours D (s .said) t s)
     turn-inv k few more l none =
         by-test (endedBy (s .collection .phase)) (λ g. stays g)
         (λ g.
-        let c = turn-captures g in
+        let c = turn-changes g in
         let b = since-few before (happen-inv D p K (t .events) s g i .common) in
         goes g (omega arith) (omega arith) none)
 
   -- ---- a run
 
-  pub run-inv : (k : ℕ) → k ≤ 255 → k < p .attempts → (ts : List (Turn D)) (s : Stand D) → Inv D p K s → run ours D ts s .counts .captures ≤ k → run ours D ts s .counts .lentRefusals ≡ 0
+  pub run-inv : (k : ℕ) → k ≤ 255 → k < p .attempts → (ts : List (Turn D)) (s : Stand D) → Inv D p K s → run ours D ts s .counts .changes ≤ k → run ours D ts s .counts .lentRefusals ≡ 0
       → Inv D p K (run ours D ts s)
   unfolding run
   run-inv k few more [] s i l none = i

@@ -42,6 +42,8 @@ struct Case {
     attempts: u32,
     // Another host acknowledges 08h before this command.
     cleared: u32,
+    // A firmware commit drops the data of 07h before this command.
+    dropped: u32,
     // The page is captured before these commands, so many times, and then all areas end at `then`.
     captured: u32,
     again: u32,
@@ -192,6 +194,15 @@ fn cleared(go: bool, r: Record, store: &mut [u8; 2560]) -> Record {
     r
 }
 
+// A drop of 07h, or nothing.
+fn dropped(go: bool, r: Record, store: &[u8]) -> Record {
+    if go {
+        let x = controller::drop(r, store, b"");
+        return x.own;
+    }
+    r
+}
+
 // How many captures come before a command.
 fn captures_before(case: Case, at: u32) -> u32 {
     if (at == case.captured) | (at == case.again) {
@@ -200,9 +211,10 @@ fn captures_before(case: Case, at: u32) -> u32 {
     0
 }
 
-// What happens before a command: an acknowledgement, and then captures.
+// What happens before a command: an acknowledgement, a drop, and then captures.
 fn meanwhile(case: Case, at: u32, r: Record, store: &mut [u8; 2560]) -> Record {
-    let own = cleared(at == case.cleared, r, store);
+    let kept = cleared(at == case.cleared, r, store);
+    let own = dropped(at == case.dropped, kept, store);
     let content = Content {
         area: case.then,
         page: case.then,
@@ -383,6 +395,7 @@ fn calm(page: u8, blocks: u32, chunk: u32, attempts: u32) -> Case {
         chunk,
         attempts,
         cleared: NEVER,
+        dropped: NEVER,
         captured: NEVER,
         again: NEVER,
         times: 1,
@@ -443,6 +456,32 @@ fn host_runs() {
     run(b"07h captured before each of two closing headers:", c);
 }
 
+// 07h, dropped before a command.
+fn emptied(label: &[u8], case: Case, dropped: u32) {
+    let mut c = case;
+    c.dropped = dropped;
+    run(label, c);
+}
+
+fn drop_runs() {
+    let two = calm(pages::HOST, 2, 1, 2);
+    emptied(b"07h dropped before the first chunk:", two, 1);
+    emptied(
+        b"07h dropped before its only chunk:",
+        calm(pages::HOST, 2, 2, 2),
+        1,
+    );
+    emptied(b"07h dropped after the last chunk:", two, 3);
+    emptied(b"07h dropped, one attempt:", calm(pages::HOST, 2, 1, 1), 1);
+    let mut c = calm(pages::HOST, 0, 1, 2);
+    emptied(b"07h dropped, empty already:", c, 1);
+    c.top = 3;
+    emptied(b"07h dropped, no block in area 1:", c, 1);
+    let mut d = two;
+    d.captured = 1;
+    emptied(b"07h dropped and captured again with the same areas:", d, 1);
+}
+
 fn controller_runs() {
     acknowledged(b"08h cleared after the header:", 3, 1, 1);
     acknowledged(b"08h cleared, one chunk:", 4, 4, 1);
@@ -481,11 +520,14 @@ fn many_runs() {
     run(b"07h, 255 captures in one attempt:", c);
     c.times = 256;
     run(b"07h, 256 captures in one attempt:", c);
+    c.then = 3;
+    run(b"07h, 256 captures of another size in one attempt:", c);
 }
 
 fn main() {
     calm_runs();
     host_runs();
+    drop_runs();
     controller_runs();
     late_runs();
     many_runs();

@@ -247,12 +247,7 @@ fn matches() {
         2,
         Completion::Header(0x08, 4, 1, 6),
     );
-    closing(
-        b"a match, five blocks",
-        0x08,
-        2,
-        Completion::Header(0x08, 5, 1, 5),
-    );
+    closing(b"a match", 0x08, 2, Completion::Header(0x08, 3, 1, 5));
     closing_broken(
         b"a match after a refused chunk",
         Completion::Header(0x08, 3, 1, 5),
@@ -260,6 +255,32 @@ fn matches() {
     closing_broken(
         b"a mismatch after a refused chunk",
         Completion::Header(0x08, 3, 1, 6),
+    );
+}
+
+// The attempt's generation and other last blocks are a mismatch.
+fn other_blocks() {
+    closing(
+        b"its generation and five blocks",
+        0x08,
+        2,
+        Completion::Header(0x08, 5, 1, 5),
+    );
+    closing(
+        b"its generation and four blocks",
+        0x08,
+        2,
+        Completion::Header(0x08, 4, 1, 5),
+    );
+    closing(
+        b"its generation and no blocks on 07h, the last attempt",
+        0x07,
+        1,
+        Completion::Header(0x07, 0, 0, 5),
+    );
+    closing_broken(
+        b"its generation and four blocks after a refused chunk",
+        Completion::Header(0x08, 4, 1, 5),
     );
 }
 
@@ -341,6 +362,7 @@ fn main() {
     firsts();
     closings();
     matches();
+    other_blocks();
     acknowledgements();
     unfit();
     made_by_hand();

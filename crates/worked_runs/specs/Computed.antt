@@ -7,7 +7,7 @@ use mathlib.Core.Bool.{false}
 use lib.ListN.{replicate, length, getD}
 use Rattle.choices.specs.Tests.{holds}
 use Rattle.copies.specs.Parts.{zeros, putAt}
-use Rattle.pages.specs.Pages.{lastOk, greatestOf, blocksOf, sizeOf, topOf, trimmedTo, trimOf}
+use Rattle.pages.specs.Pages.{lastOk, sameLast, greatestOf, blocksOf, sizeOf, topOf, trimmedTo, trimOf}
 use Rattle.words.specs.Words.{taken, builtOf}
 use Rattle.header.specs.Header.{headerOf, faultOf, noFields, checkOf}
 use Rattle.records.specs.Records.{identityOk, storeOk, controllerOk, agreesWith, hostFields, controllerFields, fieldsFor}
@@ -24,14 +24,14 @@ use Rattle.turns.specs.Turns.{turnOf}
 use Rattle.collection.specs.Collection.{setupOf, stepOf, decideOf, refusalOf, validState, completionFits, expectedOf, lookOf, moveOf, turnBy, actOf as moved, awaitedOf, beginning, copyAfter}
 use Rattle.collection.specs.declared.Next.{Next}
 use Rattle.collection.specs.declared.Next.the-variants.{Send, End as Ends}
-use Rattle.controller.specs.Controller.{commandOf, captureOf, captureAnswered, controllerCaptured, answered, before, afterwards, sentOf, pageOf, hostCaptured}
+use Rattle.controller.specs.Controller.{commandOf, captureOf, dropOf, captureAnswered, controllerCaptured, answered, before, afterwards, sentOf, pageOf, hostCaptured}
 use Rattle.runs.specs.Run.{mostChunks}
 use Rattle.sources.specs.Source.{Collector, ours, Turn, Stand, happens, happen, hears, run, begun, collected}
-use Rattle.demand3.specs.Bench.{Sent, Taken, actOf, capturesOf, ownOf, controllerSource}
+use Rattle.demand3.specs.Bench.{Sent, Taken, Dropped, actOf, capturesOf, dropsOf, ownOf, controllerSource}
 use Rattle.demand3.specs.Shown.{wantedArea}
 use Rattle.demand3.specs.Demand3.{final}
-use Rattle.worked_runs.specs.Scene.{blockOf, drive, hostDrive, newer, created, createWords, lentOf, planOf, hostPlan, stale, quiet, after}
-use Rattle.worked_runs.specs.Lazy.{stopsWith, neverStops, readsOnce, comparesNothing, fakesTheRest, inventsItsCount}
+use Rattle.worked_runs.specs.Scene.{blockOf, drive, hostDrive, newer, created, createWords, lentOf, planOf, hostPlan, smallDrive, smallPlan, stale, quiet, atOnce, after}
+use Rattle.worked_runs.specs.Lazy.{stopsWith, neverStops, readsOnce, comparesNothing, comparesGenerations, fakesTheRest, inventsItsCount}
 
 -- a run of a collector on 08h, with so many attempts, buffers of so many bytes and these turns
 abbrev pub runOf : Collector → ℕ → ℕ → List (Turn (controllerSource 8)) → Stand (controllerSource 8)
@@ -56,13 +56,28 @@ hostDisturbed = after 7 1024 (Sent createWords created (stale 512) ∷ []) 6
 abbrev pub hostRun : Stand (controllerSource 7)
 hostRun = final ours hostPlan (stale 3072) hostDrive (lentOf 1024) hostDisturbed
 
--- what came of a run: what was said last, the copy, the wanted area at the last check, the captures, the commands answered 3, 4 or 5, the commands
--- given, and C
-pub record Came (p : Plan) (s : Stand (controllerSource (p .page))) (said : Next) (copy area : List ℕ) (captures refused sent chunks : ℕ) : Type 0 where
+-- a run of a collector on 07h of the small drive, with these last blocks and turns
+abbrev pub smallRun : Collector → (area chunk attempts : ℕ) → List ℕ → List (Turn (controllerSource 7)) → Stand (controllerSource 7)
+smallRun c area chunk attempts last ts = final c (smallPlan area chunk attempts) (stale 1024) (smallDrive last) (lentOf 1024) ts
+
+-- the small drive's last blocks
+abbrev pub two : List ℕ
+two = 2 ∷ 2 ∷ 2 ∷ 0 ∷ []
+
+-- a drop before the second command, and one after both chunks
+abbrev pub dropFirst : ℕ → List (Turn (controllerSource 7))
+dropFirst n = atOnce 7 1024 (Dropped ∷ []) n
+
+abbrev pub dropLast : ℕ → List (Turn (controllerSource 7))
+dropLast n = record { events = []; lent = lentOf 1024 } ∷ after 7 1024 (Dropped ∷ []) n
+
+-- what came of a run: what was said last, the copy, the wanted area at the last check, the captures and drops, the commands answered 3, 4 or 5,
+-- the commands given, and C
+pub record Came (p : Plan) (s : Stand (controllerSource (p .page))) (said : Next) (copy area : List ℕ) (changes refused sent chunks : ℕ) : Type 0 where
   pub said-is : s .said ≡ said
   pub copy-is : s .copy ≡ copy
   pub area-is : wantedArea p (s .checked) ≡ area
-  pub captures-are : s .counts .captures ≡ captures
+  pub changes-are : s .counts .changes ≡ changes
   pub refused-are : s .counts .lentRefusals ≡ refused
   pub sent-are : length (s .sent) ≡ sent
   pub chunks-are : mostChunks p (s .headers) ≡ chunks
@@ -85,33 +100,49 @@ pub record Computed : Type 0 where
   pub ours-undisturbed : Came (planOf 2) (runOf ours 2 512 undisturbed) (endsWith (Success false) 5) old old 0 0 5 2
   pub ours-disturbed : Came (planOf 2) (runOf ours 2 512 (disturbed 5)) (endsWith (Success false) 8) new new 1 0 8 2
   pub ours-host : Came hostPlan hostRun (endsWith (Success false) 9) (replicate 2560 3 ++ zeros 512) (replicate 2560 3) 1 0 9 3
+  -- ours, with a drop on 07h: before the first chunk, a block a command (the second chunk is refused) and two; after the last chunk; where no block was
+  -- wanted before it either; and where 07h was empty already
+  pub dropped-early : Came (smallPlan 3 1 2) (smallRun ours 3 1 2 two (dropFirst 5)) (endsWith (Success false) 5) (zeros 1024) [] 1 0 5 2
+  pub dropped-whole : Came (smallPlan 3 2 2) (smallRun ours 3 2 2 two (dropFirst 5)) (endsWith (Success false) 4) (zeros 1024) [] 1 0 4 1
+  pub dropped-late : Came (smallPlan 3 1 2) (smallRun ours 3 1 2 two (dropLast 3)) (endsWith (Success false) 5) (zeros 1024) [] 1 0 5 2
+  pub dropped-unwanted : Came (smallPlan 1 1 2) (smallRun ours 1 1 2 (0 ∷ 0 ∷ 2 ∷ 0 ∷ []) (dropFirst 5)) (endsWith (Success false) 3) (zeros 1024) [] 1 0 3 0
+  pub dropped-empty : Came (smallPlan 3 1 2) (smallRun ours 3 1 2 (zeros 4) (dropFirst 5)) (endsWith (Success false) 2) (zeros 1024) [] 1 0 2 0
   -- lazy collectors
   pub stopped : (e : Ending) → Came (planOf 2) (runOf (stopsWith e) 2 512 undisturbed) (endsWith e 1) (zeros 1024) old 0 0 1 2
   pub stopped-live : (e : Ending) → runOf (stopsWith e) 2 512 undisturbed .checked .own .controller .tcda ≡ 1
   pub read-once : Came (planOf 2) (runOf readsOnce 2 512 (disturbed 5)) (endsWith (Success false) 3) mixed old 1 0 3 2
   pub compared-nothing : Came (planOf 2) (runOf comparesNothing 2 512 (disturbed 5)) (endsWith (Success false) 5) mixed new 1 0 5 2
+  pub compared-generations : Came (smallPlan 3 1 2) (smallRun comparesGenerations 3 1 2 two (dropLast 3)) (endsWith (Success false) 4) (blockOf 1 ++ blockOf 2) [] 1 0 4 2
   pub faked : Came (planOf 2) (runOf fakesTheRest 2 512 undisturbed) (endsWith (Success false) 5) (blockOf 5 ++ blockOf 9) old 0 0 5 2
   pub invented : Came (planOf 2) (runOf inventsItsCount 2 512 undisturbed) (endsWith (Success false) 6) old old 0 0 5 2
   pub going-on : Came (planOf 2) (runOf neverStops 2 512 undisturbed) (Send (awaitedOf (beginning (planOf 2) First 1))) (stale 1024) old 0 0 6 2
   -- ours, without a premise
   pub used-up : Came (planOf 1) (runOf ours 1 512 (disturbed 1)) (endsWith UsedUp 4) (zeros 1024) new 1 0 4 2
+  pub used-up-by-a-drop : Came (smallPlan 3 1 1) (smallRun ours 3 1 1 two (dropLast 3)) (endsWith UsedUp 4) (zeros 1024) [] 1 0 4 2
   pub short : Came (planOf 2) (runOf ours 2 511 []) (endsWith BrokeItsWord 1) (zeros 1024) old 0 1 1 0
 
 pub computed : Computed
-unfolding chunkBlocks captureOf captureAnswered controllerCaptured captureAnswer final collected run happen happens hears begun setupOf setupAnswer holds stepOf decideOf refusalOf validState withinBy fitsRoom completionFits expectedOf lookOf lookBy seenOf checkOf faultOf lastOk generationOf moveOf judgeBy testsOf firstOrder matchOrder laterOrder turnBy turnOf moved awaitedOf wordsBy builtOf taken phaseAt copyAfter touched putAt commandOf answered commandAnswer agreesWith storeOk controllerOk identityOk greatestOf fieldBad lastAfter candidateOk sizeOf blocksOf topOf trimmedTo trimOf before afterwards sentOf pageOf pageBytes windowOf headerOf hostFields controllerFields fieldsFor hostCaptured ownOf actOf capturesOf quiet wantedArea mostChunks noFields
+unfolding chunkBlocks dropOf captureOf captureAnswered controllerCaptured captureAnswer final collected run happen happens hears begun setupOf setupAnswer holds stepOf decideOf refusalOf validState withinBy fitsRoom completionFits expectedOf lookOf lookBy seenOf checkOf faultOf lastOk sameLast generationOf moveOf judgeBy testsOf firstOrder matchOrder laterOrder turnBy turnOf moved awaitedOf wordsBy builtOf taken phaseAt copyAfter touched putAt commandOf answered commandAnswer agreesWith storeOk controllerOk identityOk greatestOf fieldBad lastAfter candidateOk sizeOf blocksOf topOf trimmedTo trimOf before afterwards sentOf pageOf pageBytes windowOf headerOf hostFields controllerFields fieldsFor hostCaptured ownOf actOf capturesOf dropsOf quiet wantedArea mostChunks noFields
 computed = record {
-  ours-undisturbed = record { said-is = refl; copy-is = refl; area-is = refl; captures-are = refl; refused-are = refl; sent-are = refl; chunks-are = refl };
-  ours-disturbed = record { said-is = refl; copy-is = refl; area-is = refl; captures-are = refl; refused-are = refl; sent-are = refl; chunks-are = refl };
-  ours-host = record { said-is = refl; copy-is = refl; area-is = refl; captures-are = refl; refused-are = refl; sent-are = refl; chunks-are = refl };
-  stopped = λ e. record { said-is = refl; copy-is = refl; area-is = refl; captures-are = refl; refused-are = refl; sent-are = refl; chunks-are = refl };
+  ours-undisturbed = record { said-is = refl; copy-is = refl; area-is = refl; changes-are = refl; refused-are = refl; sent-are = refl; chunks-are = refl };
+  ours-disturbed = record { said-is = refl; copy-is = refl; area-is = refl; changes-are = refl; refused-are = refl; sent-are = refl; chunks-are = refl };
+  ours-host = record { said-is = refl; copy-is = refl; area-is = refl; changes-are = refl; refused-are = refl; sent-are = refl; chunks-are = refl };
+  dropped-early = record { said-is = refl; copy-is = refl; area-is = refl; changes-are = refl; refused-are = refl; sent-are = refl; chunks-are = refl };
+  dropped-whole = record { said-is = refl; copy-is = refl; area-is = refl; changes-are = refl; refused-are = refl; sent-are = refl; chunks-are = refl };
+  dropped-late = record { said-is = refl; copy-is = refl; area-is = refl; changes-are = refl; refused-are = refl; sent-are = refl; chunks-are = refl };
+  dropped-unwanted = record { said-is = refl; copy-is = refl; area-is = refl; changes-are = refl; refused-are = refl; sent-are = refl; chunks-are = refl };
+  dropped-empty = record { said-is = refl; copy-is = refl; area-is = refl; changes-are = refl; refused-are = refl; sent-are = refl; chunks-are = refl };
+  stopped = λ e. record { said-is = refl; copy-is = refl; area-is = refl; changes-are = refl; refused-are = refl; sent-are = refl; chunks-are = refl };
   stopped-live = λ e. refl;
-  read-once = record { said-is = refl; copy-is = refl; area-is = refl; captures-are = refl; refused-are = refl; sent-are = refl; chunks-are = refl };
-  compared-nothing = record { said-is = refl; copy-is = refl; area-is = refl; captures-are = refl; refused-are = refl; sent-are = refl; chunks-are = refl };
-  faked = record { said-is = refl; copy-is = refl; area-is = refl; captures-are = refl; refused-are = refl; sent-are = refl; chunks-are = refl };
-  invented = record { said-is = refl; copy-is = refl; area-is = refl; captures-are = refl; refused-are = refl; sent-are = refl; chunks-are = refl };
-  going-on = record { said-is = refl; copy-is = refl; area-is = refl; captures-are = refl; refused-are = refl; sent-are = refl; chunks-are = refl };
-  used-up = record { said-is = refl; copy-is = refl; area-is = refl; captures-are = refl; refused-are = refl; sent-are = refl; chunks-are = refl };
-  short = record { said-is = refl; copy-is = refl; area-is = refl; captures-are = refl; refused-are = refl; sent-are = refl; chunks-are = refl };
+  read-once = record { said-is = refl; copy-is = refl; area-is = refl; changes-are = refl; refused-are = refl; sent-are = refl; chunks-are = refl };
+  compared-nothing = record { said-is = refl; copy-is = refl; area-is = refl; changes-are = refl; refused-are = refl; sent-are = refl; chunks-are = refl };
+  compared-generations = record { said-is = refl; copy-is = refl; area-is = refl; changes-are = refl; refused-are = refl; sent-are = refl; chunks-are = refl };
+  faked = record { said-is = refl; copy-is = refl; area-is = refl; changes-are = refl; refused-are = refl; sent-are = refl; chunks-are = refl };
+  invented = record { said-is = refl; copy-is = refl; area-is = refl; changes-are = refl; refused-are = refl; sent-are = refl; chunks-are = refl };
+  going-on = record { said-is = refl; copy-is = refl; area-is = refl; changes-are = refl; refused-are = refl; sent-are = refl; chunks-are = refl };
+  used-up = record { said-is = refl; copy-is = refl; area-is = refl; changes-are = refl; refused-are = refl; sent-are = refl; chunks-are = refl };
+  used-up-by-a-drop = record { said-is = refl; copy-is = refl; area-is = refl; changes-are = refl; refused-are = refl; sent-are = refl; chunks-are = refl };
+  short = record { said-is = refl; copy-is = refl; area-is = refl; changes-are = refl; refused-are = refl; sent-are = refl; chunks-are = refl };
 }
 
 -- with 256 captures between the chunks the generation has come round: the copy begins as the page before and goes on as the one after
@@ -122,5 +153,5 @@ pub record Round : Type 0 where
   pub wanted : getD (wantedArea (planOf 256) (runOf ours 256 512 round .checked) ++ zeros (1024 - length (wantedArea (planOf 256) (runOf ours 256 512 round .checked)))) 0 0 ≡ 7
 
 pub round-computed : Round
-unfolding chunkBlocks captureOf captureAnswered controllerCaptured captureAnswer final collected run happen happens hears begun setupOf setupAnswer holds stepOf decideOf refusalOf validState withinBy fitsRoom completionFits expectedOf lookOf lookBy seenOf checkOf faultOf lastOk generationOf moveOf judgeBy testsOf firstOrder matchOrder laterOrder turnBy turnOf moved awaitedOf wordsBy builtOf taken phaseAt copyAfter touched putAt commandOf answered commandAnswer agreesWith storeOk controllerOk identityOk greatestOf fieldBad lastAfter candidateOk sizeOf blocksOf topOf trimmedTo trimOf before afterwards sentOf pageOf pageBytes windowOf headerOf hostFields controllerFields fieldsFor hostCaptured ownOf actOf capturesOf quiet wantedArea
+unfolding chunkBlocks captureOf captureAnswered controllerCaptured captureAnswer final collected run happen happens hears begun setupOf setupAnswer holds stepOf decideOf refusalOf validState withinBy fitsRoom completionFits expectedOf lookOf lookBy seenOf checkOf faultOf lastOk sameLast generationOf moveOf judgeBy testsOf firstOrder matchOrder laterOrder turnBy turnOf moved awaitedOf wordsBy builtOf taken phaseAt copyAfter touched putAt commandOf answered commandAnswer agreesWith storeOk controllerOk identityOk greatestOf fieldBad lastAfter candidateOk sizeOf blocksOf topOf trimmedTo trimOf before afterwards sentOf pageOf pageBytes windowOf headerOf hostFields controllerFields fieldsFor hostCaptured ownOf actOf capturesOf dropsOf quiet wantedArea
 round-computed = record { said-is = refl; begins = refl; goes-on = refl; wanted = refl }

@@ -55,6 +55,18 @@ trusting s d = record {
 abbrev pub comparesNothing : Collector
 comparesNothing = record { setup = setupOf; step = λ s ok d n. stepOf (trusting s d) ok d n; copied = λ s ok d copy. copyAfter (trusting s d) ok d copy }
 
+-- it compares generations alone, as ours did before a drop was known: whatever last blocks a closing header has are the attempt's
+abbrev lenient : Collection → List ℕ → Collection
+lenient s d = record {
+  plan = s .plan;
+  phase = s .phase;
+  attempt = record { number = s .attempt .number; generation = s .attempt .generation; last = pick (closingBy (s .phase)) (seenOf (s .plan) d .last) (s .attempt .last) };
+  count = s .count;
+}
+
+abbrev pub comparesGenerations : Collector
+comparesGenerations = record { setup = setupOf; step = λ s ok d n. stepOf (lenient s d) ok d n; copied = copyAfter }
+
 -- it does its first chunk and fakes the rest: the data of a later one is not put into the copy
 abbrev pub fakesTheRest : Collector
 fakesTheRest = record { setup = setupOf; step = stepOf; copied = λ s ok d copy. pick (leb (s .count) 2) (copyAfter s ok d copy) copy }

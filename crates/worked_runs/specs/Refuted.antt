@@ -12,21 +12,23 @@ use Rattle.copies.specs.Parts.{zeros}
 use Rattle.pages.specs.Pages.{lastOk, greatestOf}
 use Rattle.records.specs.Records.{identityOk, storeOk, controllerOk, agreesWith}
 use Rattle.records.specs.Back.{Typed, agreed-typed}
+use Rattle.plans.specs.declared.Plan.{Plan}
 use Rattle.plans.specs.Plans.{setupAnswer}
 use Rattle.judgement.specs.declared.Ending.{Ending}
 use Rattle.judgement.specs.declared.Ending.the-variants.{Success, UsedUp, BrokeItsWord}
 use Rattle.collection.specs.declared.Finish.{Finish}
 use Rattle.collection.specs.declared.Next.{Next}
 use Rattle.collection.specs.declared.Next.the-variants.{Send, End as Ends}
+use Rattle.controller.specs.Controller.{World}
 use Rattle.runs.specs.Run.{mostChunks}
 use Rattle.sources.specs.Source.{Collector, ours, Turn}
 use Rattle.sources.specs.Promise.{mostCommands}
 use Rattle.demand3.specs.Bench.{controllerSource}
 use Rattle.demand3.specs.Shown.{showsFor, area-long}
-use Rattle.demand3.specs.Demand3.{Asked, TrueEnding, succeeded-by, room-short, gone, never-there, Demand3}
-use Rattle.worked_runs.specs.Scene.{drive, hostDrive, lentOf, planOf, hostPlan, stale}
-use Rattle.worked_runs.specs.Lazy.{stopsWith, neverStops, readsOnce, comparesNothing, fakesTheRest, inventsItsCount}
-use Rattle.worked_runs.specs.Computed.{runOf, undisturbed, disturbed, round, hostDisturbed, hostRun, Came, endsWith, old, new, mixed, computed, round-computed}
+use Rattle.demand3.specs.Demand3.{Asked, TrueEnding, succeeded-by, room-short, gone, never-there, Demand3, final}
+use Rattle.worked_runs.specs.Scene.{drive, hostDrive, smallDrive, lentOf, planOf, hostPlan, smallPlan, stale}
+use Rattle.worked_runs.specs.Lazy.{stopsWith, neverStops, readsOnce, comparesNothing, comparesGenerations, fakesTheRest, inventsItsCount}
+use Rattle.worked_runs.specs.Computed.{runOf, undisturbed, disturbed, round, hostDisturbed, hostRun, smallRun, two, dropFirst, dropLast, Came, endsWith, old, new, mixed, computed, round-computed}
 
 -- ---- what is asked for
 
@@ -45,7 +47,7 @@ Promised c ts k = Demand3 c (planOf 2) (stale 1024) drive (lentOf 512) ts k
 meant : (c : Collector) (ts : List (Turn (controllerSource 8))) (k : ℕ) {said : Next} {copy area : List ℕ} {sent chunks : ℕ} → k < 2
     → Came (planOf 2) (runOf c 2 512 ts) said copy area k 0 sent chunks → Meant c ts k
 unfolding setupAnswer holds
-meant c ts k l x = record { taken = refl; caps = refl; room = refl; typed = typed; attempts = l; captures = omega (arith, x .captures-are); spared = x .refused-are }
+meant c ts k l x = record { taken = refl; caps = refl; room = refl; typed = typed; attempts = l; changes = omega (arith, x .changes-are); spared = x .refused-are }
 
 -- ---- ours
 
@@ -71,22 +73,50 @@ pub ours-host : Asked ours hostPlan (stale 3072) hostDrive (lentOf 1024) hostDis
 unfolding setupAnswer holds
 ours-host =
     let x = computed .ours-host in (
-      record { taken = refl; caps = refl; room = refl; typed = host-typed; attempts = omega arith; captures = omega (arith, x .captures-are); spared = x .refused-are },
+      record { taken = refl; caps = refl; room = refl; typed = host-typed; attempts = omega arith; changes = omega (arith, x .changes-are); spared = x .refused-are },
       x .said-is,
       x .copy-is,
       ap (mostCommands hostPlan 1) (x .chunks-are),
     )
 
+small-typed : Typed (smallDrive two .own)
+unfolding agreesWith storeOk controllerOk identityOk greatestOf lastOk holds
+small-typed = agreed-typed (smallDrive two .own) 1024 0 refl (record { host-four = refl; host-reason = refl; controller-four = refl; controller-reason = refl }) (omega arith) (omega arith)
+
+-- what is asked for of a run of any collector on the small drive's area 3 with two attempts and k = 1, and what is promised of it
+abbrev pub SmallMeant : Collector → ℕ → List (Turn (controllerSource 7)) → Type 0
+SmallMeant c chunk ts = Asked c (smallPlan 3 chunk 2) (stale 1024) (smallDrive two) (lentOf 1024) ts 1
+
+abbrev pub SmallPromised : Collector → ℕ → List (Turn (controllerSource 7)) → Type 0
+SmallPromised c chunk ts = Demand3 c (smallPlan 3 chunk 2) (stale 1024) (smallDrive two) (lentOf 1024) ts 1
+
+small-meant : (c : Collector) (ts : List (Turn (controllerSource 7))) {said : Next} {copy area : List ℕ} {sent chunks : ℕ}
+    → Came (smallPlan 3 1 2) (smallRun c 3 1 2 two ts) said copy area 1 0 sent chunks → SmallMeant c 1 ts
+unfolding setupAnswer holds
+small-meant c ts x = record { taken = refl; caps = refl; room = refl; typed = small-typed; attempts = omega arith; changes = omega (arith, x .changes-are); spared = x .refused-are }
+
+-- On 07h, a firmware commit before the first of two chunks empties the page: the second chunk is refused, the closing header has the generation of the
+-- first header and other last blocks, which is no 12 but the next attempt, and that ends well with no blocks after five commands; so does one after the last
+-- chunk, which throws a whole copy away.
+pub ours-dropped : SmallMeant ours 1 (dropFirst 5)
+    × (smallRun ours 3 1 2 two (dropFirst 5) .said ≡ endsWith (Success false) 5) × (smallRun ours 3 1 2 two (dropFirst 5) .copy ≡ zeros 1024)
+    × SmallMeant ours 1 (dropLast 3)
+    × (smallRun ours 3 1 2 two (dropLast 3) .said ≡ endsWith (Success false) 5) × (smallRun ours 3 1 2 two (dropLast 3) .copy ≡ zeros 1024)
+ours-dropped =
+    let x = computed .dropped-early in
+    let y = computed .dropped-late in
+    (small-meant ours (dropFirst 5) x, x .said-is, x .copy-is, small-meant ours (dropLast 3) y, y .said-is, y .copy-is)
+
 -- ---- lazy collectors
 
 -- a success whose copy has another byte than the area breaks the promise
-wrong-copy : (c : Collector) (ts : List (Turn (controllerSource 8))) (k i n : ℕ) {t : Bool} {copy area : List ℕ} {sent chunks captures refused : ℕ}
-    → Came (planOf 2) (runOf c 2 512 ts) (endsWith (Success t) n) copy area captures refused sent chunks
-    → (getD copy i 0 ≡ getD (area ++ zeros (1024 - length area)) i 0 → ⊥) → Promised c ts k → ⊥
-wrong-copy c ts k i n {t = t} x differs d = by (d .ended (record { ending = Success t; count = n }) (x .said-is))
+wrong-copy : (c : Collector) (p : Plan) (w : World) (bytes : ℕ) (ts : List (Turn (controllerSource (p .page)))) (k i n : ℕ) {t : Bool} {copy area : List ℕ} {sent chunks changes refused : ℕ}
+    → Came p (final c p (stale (p .room)) w (lentOf bytes) ts) (endsWith (Success t) n) copy area changes refused sent chunks
+    → (getD copy i 0 ≡ getD (area ++ zeros (p .room - length area)) i 0 → ⊥) → Demand3 c p (stale (p .room)) w (lentOf bytes) ts k → ⊥
+wrong-copy c p w bytes ts k i n {t = t} x differs d = by (d .ended (record { ending = Success t; count = n }) (x .said-is))
   where
-    by : TrueEnding c (planOf 2) (stale 1024) drive (lentOf 512) ts (record { ending = Success t; count = n }) (runOf c 2 512 ts .checked) → ⊥
-    by (succeeded-by a q l) = differs (ap (λ (y : List ℕ). getD y i 0) (sym (x .copy-is) ∙ q ∙ ap (λ (y : List ℕ). y ++ zeros (1024 - length y)) (x .area-is)))
+    by : TrueEnding c p (stale (p .room)) w (lentOf bytes) ts (record { ending = Success t; count = n }) (final c p (stale (p .room)) w (lentOf bytes) ts .checked) → ⊥
+    by (succeeded-by a q l) = differs (ap (λ (y : List ℕ). getD y i 0) (sym (x .copy-is) ∙ q ∙ ap (λ (y : List ℕ). y ++ zeros (p .room - length y)) (x .area-is)))
     by (room-short a q l) = absurd (omega arith)
     by (gone a q l m o) = absurd (omega arith)
     by (never-there a q l m o) = absurd (omega arith)
@@ -122,19 +152,25 @@ never-stops-refuted =
 pub reads-once-refuted : Meant readsOnce (disturbed 5) 1 × (runOf readsOnce 2 512 (disturbed 5) .copy ≡ mixed) × (Promised readsOnce (disturbed 5) 1 → ⊥)
 reads-once-refuted =
     let x = computed .read-once in
-    (meant readsOnce (disturbed 5) 1 (omega arith) x, x .copy-is, wrong-copy readsOnce (disturbed 5) 1 512 3 x (λ z. omega arith))
+    (meant readsOnce (disturbed 5) 1 (omega arith) x, x .copy-is, wrong-copy readsOnce (planOf 2) drive 512 (disturbed 5) 1 512 3 x (λ z. omega arith))
 
 -- One that reads it again and compares nothing.
 pub compares-nothing-refuted : Meant comparesNothing (disturbed 5) 1 × (runOf comparesNothing 2 512 (disturbed 5) .copy ≡ mixed) × (Promised comparesNothing (disturbed 5) 1 → ⊥)
 compares-nothing-refuted =
     let x = computed .compared-nothing in
-    (meant comparesNothing (disturbed 5) 1 (omega arith) x, x .copy-is, wrong-copy comparesNothing (disturbed 5) 1 0 5 x (λ z. omega arith))
+    (meant comparesNothing (disturbed 5) 1 (omega arith) x, x .copy-is, wrong-copy comparesNothing (planOf 2) drive 512 (disturbed 5) 1 0 5 x (λ z. omega arith))
+
+-- One that compares generations alone: its copy is of a page that was dropped.
+pub compares-generations-refuted : SmallMeant comparesGenerations 1 (dropLast 3) × (SmallPromised comparesGenerations 1 (dropLast 3) → ⊥)
+compares-generations-refuted =
+    let x = computed .compared-generations in
+    (small-meant comparesGenerations (dropLast 3) x, wrong-copy comparesGenerations (smallPlan 3 1 2) (smallDrive two) 1024 (dropLast 3) 1 0 4 x (λ z. omega arith))
 
 -- One that does its first chunk and fakes the rest.
 pub fakes-refuted : Meant fakesTheRest undisturbed 0 × (Promised fakesTheRest undisturbed 0 → ⊥)
 fakes-refuted =
     let x = computed .faked in
-    (meant fakesTheRest undisturbed 0 (omega arith) x, wrong-copy fakesTheRest undisturbed 0 512 5 x (λ z. omega arith))
+    (meant fakesTheRest undisturbed 0 (omega arith) x, wrong-copy fakesTheRest (planOf 2) drive 512 undisturbed 0 512 5 x (λ z. omega arith))
 
 -- One that invents its count.
 pub invents-refuted : Meant inventsItsCount undisturbed 0 × (Promised inventsItsCount undisturbed 0 → ⊥)
@@ -145,8 +181,12 @@ invents-refuted =
 -- ---- premises
 
 -- k attempts for k captures end with 9.
-pub attempts-needed : (runOf ours 1 512 (disturbed 1) .counts .captures ≡ 1) × (runOf ours 1 512 (disturbed 1) .said ≡ endsWith UsedUp 4)
-attempts-needed = let x = computed .used-up in (x .captures-are, x .said-is)
+pub attempts-needed : (runOf ours 1 512 (disturbed 1) .counts .changes ≡ 1) × (runOf ours 1 512 (disturbed 1) .said ≡ endsWith UsedUp 4)
+attempts-needed = let x = computed .used-up in (x .changes-are, x .said-is)
+
+-- And so with drops, which count for k as captures do.
+pub attempts-needed-for-drops : (smallRun ours 3 1 1 two (dropLast 3) .counts .changes ≡ 1) × (smallRun ours 3 1 1 two (dropLast 3) .said ≡ endsWith UsedUp 4)
+attempts-needed-for-drops = let x = computed .used-up-by-a-drop in (x .changes-are, x .said-is)
 
 -- A buffer that is too short for a command of the run ends it with 12.
 pub buffers-needed : (runOf ours 2 511 [] .counts .lentRefusals ≡ 1) × (runOf ours 2 511 [] .said ≡ endsWith BrokeItsWord 1)

@@ -37,6 +37,15 @@ hostDrive = world (record {
   controller = record { last = zeros 4; generation = 0; tcda = 0; notice = false; reason = zeros 128 };
 }) (replicate 2560 1) []
 
+-- 07h has these last blocks and two blocks of a store, of ones and of twos, and 08h none
+abbrev pub smallDrive : List ℕ → World
+smallDrive last = world (record {
+  caps = caps;
+  identity = record { oui = 0; hostscope = 1; controllerscope = 1 };
+  host = record { last = last; generation = 9; reason = replicate 128 4 };
+  controller = record { last = zeros 4; generation = 0; tcda = 0; notice = false; reason = zeros 128 };
+}) (blockOf 1 ++ blockOf 2) []
+
 -- what a capture of 08h takes: two blocks, of sevens and of eights
 abbrev pub newer : Candidate
 newer = candidateOf (2 ∷ 2 ∷ 2 ∷ 2 ∷ []) (blockOf 7 ++ blockOf 8) (zeros 128)
@@ -61,6 +70,10 @@ planOf attempts = record { page = 8; create = false; area = 1; chunk = 1; attemp
 abbrev pub hostPlan : Plan
 hostPlan = record { page = 7; create = false; area = 1; chunk = 2; attempts = 2; room = 3072; caps = caps }
 
+-- an area of 07h, so many blocks a command, so many attempts, into a copy of two blocks
+abbrev pub smallPlan : (area chunk attempts : ℕ) → Plan
+smallPlan area chunk attempts = record { page = 7; create = false; area = area; chunk = chunk; attempts = attempts; room = 1024; caps = caps }
+
 -- what stood in a copy before
 abbrev pub stale : ℕ → List ℕ
 stale bytes = replicate bytes 9
@@ -70,6 +83,10 @@ unfoldable pub quiet : (page bytes n : ℕ) → List (Turn (controllerSource pag
 quiet page bytes zero = []
 quiet page bytes (suc n) = record { events = []; lent = lentOf bytes } ∷ quiet page bytes n
 
+-- these events, and then so many commands
+abbrev pub atOnce : (page bytes : ℕ) → List Event → ℕ → List (Turn (controllerSource page))
+atOnce page bytes es n = record { events = es; lent = lentOf bytes } ∷ quiet page bytes n
+
 -- a chunk, these events, and then so many commands
 abbrev pub after : (page bytes : ℕ) → List Event → ℕ → List (Turn (controllerSource page))
-after page bytes es n = record { events = []; lent = lentOf bytes } ∷ record { events = es; lent = lentOf bytes } ∷ quiet page bytes n
+after page bytes es n = record { events = []; lent = lentOf bytes } ∷ atOnce page bytes es n

@@ -11,9 +11,16 @@ faultless-requires c κs = search needs
 fits-room-requires : tie.Need-fits-room-requires
 fits-room-requires c κs = search needs
 
+same-last-requires : tie.Need-same-last-requires
+same-last-requires c κs = search needs
+
 returns : tie.Need-returns
 unfolding testsOf
-returns c = rw (c .before .before .fits-room .ensures, c .before .before .before .before .faultless .ensures)
+returns c =
+    let same = c .before .before in
+    let fits = same .before in
+    rw (same .same-last .ensures, fits .fits-room .ensures, fits .before .before .faultless .ensures)
 
 pub tests-of-spec : {M : Type 1} → statement M
-tests-of-spec = tie.close (tie.spec faultless-requires fits-room-requires returns)
+tests-of-spec =
+    tie.close (tie.spec faultless-requires fits-room-requires same-last-requires returns)
