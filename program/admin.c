@@ -574,11 +574,13 @@ static void get_page(const struct command *k) {
 
 /* ---- the vendor command that makes things happen */
 
-enum { FORGET = 0, CAPTURE_08 = 1, CAPTURE_07 = 2, CLEAR_08 = 3, REFUSE = 4, CLOSE_1 = 5, CLOSE_2 = 6, WAIT = 7, CLOSE_3 = 8, KINDS = 9 };
+enum { FORGET = 0, CAPTURE_08 = 1, CAPTURE_07 = 2, CLEAR_08 = 3, REFUSE = 4, CLOSE_1 = 5, CLOSE_2 = 6, WAIT = 7, CLOSE_3 = 8, DROP_07 = 9,
+       KINDS = 10 };
 
 static struct happening happening_of(const struct command *k) {
     static const enum what kinds[KINDS] = {[CAPTURE_08] = CAPTURE,  [CAPTURE_07] = CAPTURE,   [CLEAR_08] = CLEAR,      [REFUSE] = REFUSAL,
-                                           [CLOSE_1] = CLOSE_BEFORE, [CLOSE_2] = CLOSE_UNTOLD, [CLOSE_3] = CLOSE_AFTER, [WAIT] = DELAY};
+                                           [CLOSE_1] = CLOSE_BEFORE, [CLOSE_2] = CLOSE_UNTOLD, [CLOSE_3] = CLOSE_AFTER, [WAIT] = DELAY,
+                                           [DROP_07] = DROP};
     uint32_t kind = word_of(k, 10);
     struct happening h = {.what = kinds[kind], .before = word_of(k, 11), .number = word_of(k, 12)};
     if (h.what != CAPTURE)
@@ -601,7 +603,7 @@ static void happen_now(const struct command *k, const struct happening *h) {
     if (h->what == CLOSE_BEFORE) {
         succeed(k, 0);
         close_everything();
-    } else if (h->what != CAPTURE && h->what != CLEAR) {
+    } else if (h->what != CAPTURE && h->what != CLEAR && h->what != DROP) {
         refuse(k, INVALID_FIELD);
     } else if (embedded_now(h)) {
         refuse(k, CANNOT_HAPPEN);

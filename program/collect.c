@@ -31,23 +31,30 @@ static void complete(struct wish *wish, const struct drive *drive) {
     }
 }
 
+/* Whether page 07h has no blocks though it had some, or was to have some, in this run. */
+static bool emptied(void) { return report.page == 7 && report.empty && (options.wish.create || report.failed); }
+
 static void hint(void) {
-    if (report.page == 7 && !options.wish.create && report.file && report.empty)
+    if (report.file && emptied())
+        say("note: page 07h holds no blocks: the capture had none, or a firmware commit or power on dropped them");
+    else if (report.file && report.page == 7 && report.empty)
         say("note: page 07h holds no capture: --create lets the drive take one");
     if (options.json && report.file && !report.sha256[0])
         say("note: no SHA-256 of the file, since this machine has no libcrypto");
 }
 
+/* Whether a success has nothing more to tell. */
+static bool as_wished(void) { return report.page == 7 ? !emptied() : report.acknowledgement == DONE || report.keeps; }
+
 /* Tells a run that has an ending. */
 static void tell(void) {
     char aside[5000];
-    bool as_wished = report.page == 7 || report.acknowledgement == DONE || report.keeps;
     say_at_death(NULL); /* the object that is printed here is the one */
     if (options.json)
         report_json(report.ending, NULL);
     snprintf(aside, sizeof aside, " (%s)", report_standing());
     close_stdout(aside);
-    if (!options.quiet || report.ending || report.newer || !as_wished)
+    if (!options.quiet || report.ending || report.newer || !as_wished())
         report_line();
     if (!options.quiet)
         hint();

@@ -31,7 +31,7 @@ static const char help[] = "usage: bumbazeel collect [OPTIONS] [DEVICE] OUTPUT\n
                            "  --output-dir FOLDER   a new file in FOLDER, named by serial, page and time\n"
                            "  --no-clobber          replace no file\n"
                            "  --blocks N            blocks a command, 1 to 8192 (128)\n"
-                           "  --attempts N          attempts if newer captures come, 1 to 256 (5)\n"
+                           "  --attempts N          attempts if the page changes meanwhile, 1 to 256 (5)\n"
                            "  --room BYTES          the most that the area may take, a multiple of 512\n"
                            "                        (all that the area can have)\n"
                            "  -t, --timeout MS      the most milliseconds that a command may take\n"
@@ -45,8 +45,9 @@ static const char help[] = "usage: bumbazeel collect [OPTIONS] [DEVICE] OUTPUT\n
                            "  --capture-before N[:A1,A2,A3,A4]\n"
                            "                        a capture comes right before the run's command N\n"
                            "  --clear-before N      another host acknowledges before command N (08h)\n"
+                           "  --drop-before N       a firmware commit drops the data before command N (07h)\n"
                            "  --refuse N            command N is refused, as by a broken drive\n"
-                           "The last three may be given more than once and happen in their order.\n";
+                           "The last four may be given more than once and happen in their order.\n";
 
 /* What is collected, and from which drive. */
 static bool read_wish(struct collect_options *o, struct arguments *a) {
@@ -140,6 +141,8 @@ static void judge(const struct collect_options *o) {
 static void judge_happening(const struct collect_options *o, const struct happening *h) {
     if (h->what == CLEAR && o->wish.page == 7)
         die("--clear-before is for page 08h: nobody acknowledges 07h");
+    if (h->what == DROP && o->wish.page == 8)
+        die("--drop-before is for page 07h: a firmware commit leaves 08h as it is");
     if (h->what == CAPTURE && o->wish.page == 8 && !h->areas[2])
         die("--capture-before: a capture on page 08h has a block in area 3 or it is none");
 }

@@ -43,6 +43,7 @@ struct happening {
     enum what {
         CAPTURE,      /* another capture is taken */
         CLEAR,        /* another host acknowledges page 08h */
+        DROP,         /* a firmware commit drops the data of page 07h */
         REFUSAL,      /* the command is refused */
         CLOSE_BEFORE, /* its connection is closed, and it is not done */
         CLOSE_UNTOLD, /* it is done, and its connection is closed before it is answered */
@@ -85,7 +86,7 @@ struct fate embedded_before(uint8_t page);
 /* The controller's answer to the words; with success data holds what they ask for. */
 uint8_t embedded_answer(const uint32_t words[5], uint8_t *data, size_t bytes);
 
-/* Lets a capture or a clearing happen now: the controller's answer. */
+/* Lets a capture, a clearing or a drop happen now: the controller's answer. */
 uint8_t embedded_now(const struct happening *happening);
 
 /* Lets something happen before the n-th command from now, n being what `before` says. False: too much is to happen already, or there is no

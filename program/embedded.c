@@ -1,7 +1,7 @@
 /* The embedded drive: the proved controller over stores in memory.
  *
- * Each capture has contents of its own, made from the seed and the capture's number, so that a copy of two captures would show. Other
- * hosts act between two commands of the run, as the happenings say. */
+ * Each capture has contents of its own, made from the seed and the capture's number, so that a copy of two captures would show. Between two
+ * commands of the run other hosts act, and firmware is committed, as the happenings say. */
 #include "drive.h"
 
 #include "lazy.h"
@@ -104,6 +104,12 @@ static uint8_t clear(void) {
     return others_command(BUMBAZEEL_CONTROLLER_PAGE, 0, 0, &none);
 }
 
+static uint8_t drop(void) {
+    struct candidate none = no_candidate();
+    struct bumbazeel_lent all = lent(&none);
+    return bumbazeel_drop_on(&all);
+}
+
 /* A run ends where the drive cannot do what is to happen; a drive with both pages serves on. */
 static void tell(uint8_t answer, const char *what) {
     void (*how)(const char *format, ...) = here.page ? die : say;
@@ -125,6 +131,8 @@ static void let_happen(const struct happening *h, uint8_t page, struct fate *fat
         tell_capture(capture(captured, h->areas), captured, h->areas);
     else if (h->what == CLEAR)
         tell(clear(), "acknowledgement");
+    else if (h->what == DROP)
+        tell(drop(), "firmware commit");
     else if (h->what == REFUSAL)
         fate->refusal = (uint16_t)(h->number ? h->number : INTERNAL_ERROR);
     else if (h->what == DELAY)
@@ -164,6 +172,8 @@ static enum completion embedded_send(struct drive *drive, const uint32_t words[5
 uint8_t embedded_now(const struct happening *happening) {
     if ((size_t)happening->areas[3] * BLOCK > here.spare_bytes)
         return BUMBAZEEL_BROKEN_CANDIDATE;
+    if (happening->what == DROP)
+        return drop();
     return happening->what == CLEAR ? clear() : capture(happening->page, happening->areas);
 }
 

@@ -55,6 +55,8 @@ bool read_embedded_option(struct embedded *e, struct arguments *a) {
         read_happening(e, "--capture-before", CAPTURE, value);
     else if (argument_value(a, "--clear-before", &value))
         read_happening(e, "--clear-before", CLEAR, value);
+    else if (argument_value(a, "--drop-before", &value))
+        read_happening(e, "--drop-before", DROP, value);
     else if (argument_value(a, "--refuse", &value))
         read_happening(e, "--refuse", REFUSAL, value);
     else

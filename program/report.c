@@ -64,7 +64,7 @@ void report_line(void) {
     put_refusal(refusal, sizeof refusal);
     put_acknowledgement(acknowledgement, sizeof acknowledgement);
     if (report.failed)
-        snprintf(failed, sizeof failed, "; %u attempt%s failed because a newer capture came in between", (unsigned)report.failed,
+        snprintf(failed, sizeof failed, "; %u attempt%s failed because the page changed in between", (unsigned)report.failed,
                  plural(report.failed));
     say("ending %u (%s): %u attempt%s, %llu command%s, %s%s%s%s", report.ending, meaning(report.ending), (unsigned)report.attempts,
         plural(report.attempts), (unsigned long long)report.commands, plural(report.commands), saved, failed, refusal, acknowledgement);
@@ -104,8 +104,8 @@ static void print_run(void) {
     uint16_t refusal = report.drive ? report.drive->refusal : 0;
     printf(", \"page\": \"%02Xh\", \"area\": %u, \"attempts\": %u, \"failed_attempts\": %u, \"commands\": %llu", report.page, report.area,
            (unsigned)report.attempts, (unsigned)report.failed, (unsigned long long)report.commands);
-    printf(", \"acknowledgement\": \"%s\", \"newer_unread\": %s, \"unread_blocks\": %u, \"sizes_differ\": %s",
-           acknowledgement[report.acknowledgement], json_flag(report.newer), (unsigned)report.unread, json_flag(report.sizes_differ));
+    printf(", \"acknowledgement\": \"%s\", \"newer_unread\": %s, \"unread_blocks\": %u", acknowledgement[report.acknowledgement],
+           json_flag(report.newer), (unsigned)report.unread);
     printf(", \"refusal_status\": \"%04Xh\"", refusal);
     print_member("refusal_name", refusal ? status_name(refusal) : NULL);
 }

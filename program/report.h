@@ -22,7 +22,6 @@ struct report {
     uint32_t attempts, failed;
     uint64_t commands; /* Get Log Pages of the page collected that were sent */
     bool newer;        /* a newer capture was acknowledged unread */
-    bool sizes_differ; /* an attempt failed because its closing header showed other last blocks under the same generation */
     enum acknowledgement acknowledgement;
     bool keeps;        /* none is wanted */
     uint32_t unread;   /* blocks of the page above the area, which keep it from being acknowledged */

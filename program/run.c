@@ -95,13 +95,14 @@ static void take(struct under_way *r, bool ok, size_t bytes) {
         die("the collection takes no completion: %u (%s)", r->next.answer, meaning(r->next.answer));
 }
 
-/* The header just read opens the next attempt, with room for it; `failed` attempts of this collection are over. */
-static void open_again(struct under_way *r, uint32_t failed) {
-    r->earlier += failed;
-    if (r->earlier == r->wish->attempts) {
-        r->next = (struct bumbazeel_next){.kind = BUMBAZEEL_ENDED, .answer = BUMBAZEEL_ATTEMPTS_USED_UP};
-        return;
-    }
+/* Whether the collection has ended for want of room that may be had. */
+static bool can_grow(const struct under_way *r) {
+    return r->next.kind == BUMBAZEEL_ENDED && r->next.answer == BUMBAZEEL_NO_ROOM && needed(r) <= r->wish->room;
+}
+
+/* The header just read opens its attempt once more, with room for it. */
+static void open_again(struct under_way *r) {
+    r->earlier += r->state.attempt - 1;
     make_room(r, 0);
     take(r, true, BLOCK);
 }
@@ -131,29 +132,6 @@ static bool exchange(struct under_way *r) {
         make_room(r, r->state.create);
     take(r, ok, bytes);
     return true;
-}
-
-/* Whether the library has just found the copy to be one capture. */
-static bool copy_stands(const struct under_way *r) {
-    bool ended_on_07 = r->wish->page == 7 && r->next.kind == BUMBAZEEL_ENDED && r->next.answer == BUMBAZEEL_SUCCESS;
-    return ended_on_07 || (r->next.kind == BUMBAZEEL_SEND && r->state.phase == BUMBAZEEL_AWAITS_ACKNOWLEDGEMENT);
-}
-
-/* Whether the closing header shows other last blocks than the header that opened the attempt, though its generation matched: 256 captures
- * came in between, or the drive emptied its page. Then the copy is of no use, and the attempt has failed. */
-static bool sizes_differ(const struct under_way *r) {
-    struct bumbazeel_fields closing = fields_of(r, r->image);
-    return memcmp(closing.last, r->state.last, sizeof closing.last) != 0;
-}
-
-/* Where the library alone cannot go on. */
-static void go_on(struct under_way *r) {
-    if (copy_stands(r) && sizes_differ(r)) {
-        report.sizes_differ = true;
-        open_again(r, r->state.attempt);
-    } else if (r->next.kind == BUMBAZEEL_ENDED && r->next.answer == BUMBAZEEL_NO_ROOM && needed(r) <= r->wish->room) {
-        open_again(r, r->state.attempt - 1);
-    }
 }
 
 static void save(struct under_way *r) {
@@ -201,7 +179,8 @@ static bool advance(struct under_way *r) {
         progress_wait("waiting for the drive to take a capture");
     if (!exchange(r))
         return false;
-    go_on(r);
+    if (can_grow(r))
+        open_again(r);
     put_report(r);
     if (r->wish->progress)
         progress_show(&r->state, report.attempts, r->wish->attempts, r->moved);
@@ -219,7 +198,7 @@ void run(struct drive *drive, const struct wish *wish) {
         going = r.state.phase == BUMBAZEEL_AWAITS_ACKNOWLEDGEMENT ? acknowledge(&r) : advance(&r);
     }
     progress_hide();
-    if (copy_stands(&r) && wish->page == 7)
+    if (wish->page == 7 && r.next.kind == BUMBAZEEL_ENDED && r.next.answer == BUMBAZEEL_SUCCESS)
         save(&r);
     put_report(&r);
     report.ended = !drive->trouble[0];

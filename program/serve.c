@@ -47,8 +47,10 @@ static const char help[] = "usage: bumbazeel serve [OPTIONS]\n"
                            "                        a capture comes right before telemetry command N, on the\n"
                            "                        page that it asks for\n"
                            "  --clear-before N      another host acknowledges before telemetry command N\n"
+                           "  --drop-before N       a firmware commit drops the data of 07h before telemetry\n"
+                           "                        command N\n"
                            "  --refuse N            telemetry command N is refused, as by a broken drive\n"
-                           "The last three may be given more than once and happen in their order. More can be\n"
+                           "The last four may be given more than once and happen in their order. More can be\n"
                            "made to happen from a host, by the vendor command C0h: see the man page.\n";
 
 struct options {

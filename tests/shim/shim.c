@@ -8,6 +8,7 @@
  *   BUMBAZEEL_SHIM_MCDAS=1      it honours the greatest area that a create wants, as its page 00h says (default 0)
  *   BUMBAZEEL_SHIM_LPA=N        the LPA that it shows (default 6Ch: extended data, telemetry, page 00h, area 4)
  *   BUMBAZEEL_SHIM_CAPTURE=N    a capture of the page asked for comes right before the N-th Get Log Page
+ *   BUMBAZEEL_SHIM_DROP=N       a drop comes right before the N-th Get Log Page, and before a capture that comes there too
  *   BUMBAZEEL_SHIM_GONE=N       the drive is gone from the N-th Get Log Page of 07h or 08h on
  *   BUMBAZEEL_SHIM_FAIL=N,before|after,RESULT   the N-th admin command fails before or after the drive acted: with the error number -RESULT
  *                               if RESULT is negative, else with this NVMe status
@@ -45,7 +46,7 @@ static struct {
     size_t bytes;
     uint8_t reason[REASON];
     unsigned captures;
-    long asked, capture_before, gone_from;
+    long asked, capture_before, drop_before, gone_from;
     long admins, fails_at, fails_with;
     bool fails_after;
 } drive = {.file = -1};
@@ -113,6 +114,11 @@ static void take_07(void) {
     must(!bumbazeel_words(7, 1, 0, 1, 0, 1, words) && !command(words, header, sizeof header), "the create is refused");
 }
 
+static void drop_07(void) {
+    struct bumbazeel_lent all = lent();
+    must(!bumbazeel_drop_on(&all), "the drop is refused");
+}
+
 static void read_failure(void) {
     const char *text = getenv("BUMBAZEEL_SHIM_FAIL");
     char when[8] = "";
@@ -138,6 +144,7 @@ static void get_ready(void) {
     must(drive.host && drive.controller && drive.candidate, "out of memory");
     must(!bumbazeel_fresh(caps, OUI, 1, 1, &drive.record), "the record is refused");
     drive.capture_before = setting("BUMBAZEEL_SHIM_CAPTURE", 0);
+    drive.drop_before = setting("BUMBAZEEL_SHIM_DROP", 0);
     drive.gone_from = setting("BUMBAZEEL_SHIM_GONE", 0);
     read_failure();
     take_08();
@@ -214,6 +221,8 @@ static int get_log_page(const uint32_t words[5], uint8_t *data, size_t bytes) {
     }
     if (page == 8 && !(words[0] & RETAIN_EVENT))
         mark(ACKNOWLEDGEMENT);
+    if (drive.asked == drive.drop_before)
+        drop_07();
     if (drive.asked == drive.capture_before)
         page == 8 ? take_08() : take_07();
     uint8_t answer = command(words, data, bytes);
