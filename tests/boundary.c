@@ -109,6 +109,11 @@ static uint8_t capture(struct drive *d) {
     return bumbazeel_capture_on(&all);
 }
 
+static uint8_t drop(struct drive *d) {
+    struct bumbazeel_lent all = lent(d);
+    return bumbazeel_drop_on(&all);
+}
+
 static void begin(struct drive *d) {
     static const uint32_t last[4] = {1, 2, 3, 4};
     memset(d, 0, sizeof *d);
@@ -222,7 +227,7 @@ static void controller(void) {
         lent.identifier_class = 9;
         memset(buffer, 0x55, sizeof buffer);
         expect(command(&lent, ask, buffer, sizeof buffer) == BUMBAZEEL_DISAGREE && lent.identifier_class == 0 && all(buffer, sizeof buffer, 0x55));
-        expect(capture(&lent) == BUMBAZEEL_DISAGREE);
+        expect(capture(&lent) == BUMBAZEEL_DISAGREE && drop(&lent) == BUMBAZEEL_DISAGREE);
         expect(!memcmp(&lent, &before, sizeof lent));
     }
 
@@ -232,6 +237,51 @@ static void controller(void) {
     bumbazeel_fresh(CAPS, 0, 1, 1, &alone);
     expect(bumbazeel_command(&alone, NULL, 0, NULL, 0, d.last, NULL, 0, NULL, 0, ask, NULL, 0, &identifier_class) == BUMBAZEEL_SHORT_BUFFER);
     expect(bumbazeel_capture(&alone, NULL, 0, NULL, 0, d.last, NULL, 0, NULL, 0) == BUMBAZEEL_BROKEN_CANDIDATE);
+}
+
+/* A drop zeroes the host's last blocks and reason, and leaves every other byte of the drive. */
+static void drops(void) {
+    struct drive d, want;
+    struct bumbazeel_fields fields;
+    uint32_t ask[5];
+    uint8_t buffer[BLOCK];
+    begin(&d);
+    bumbazeel_words(0x07, 1, 0, 1, 0, 1, ask);
+    expect(command(&d, ask, buffer, sizeof buffer) == BUMBAZEEL_SUCCESS && capture(&d) == BUMBAZEEL_SUCCESS);
+    d.record.host_generation = 255;
+    want = d;
+    memset(want.record.host_last, 0, sizeof want.record.host_last);
+    memset(want.record.host_reason, 0, sizeof want.record.host_reason);
+
+    /* stores that do not hold the last blocks: 4, and nothing is written */
+    struct drive before = d;
+    const size_t whole = sizeof d.host;
+    expect(bumbazeel_drop(&d.record, d.host, whole - 1, d.controller, whole) == BUMBAZEEL_DISAGREE);
+    expect(bumbazeel_drop(&d.record, d.host, whole, d.controller, whole - 1) == BUMBAZEEL_DISAGREE);
+    expect(bumbazeel_drop(&d.record, NULL, 0, d.controller, whole) == BUMBAZEEL_DISAGREE);
+    expect(bumbazeel_drop(&d.record, d.host, whole, NULL, 0) == BUMBAZEEL_DISAGREE && !memcmp(&d, &before, sizeof d));
+
+    expect(drop(&d) == BUMBAZEEL_SUCCESS && !memcmp(&d, &want, sizeof d));
+    expect(drop(&d) == BUMBAZEEL_SUCCESS && !memcmp(&d, &want, sizeof d));
+    expect(bumbazeel_drop(&d.record, NULL, 0, d.controller, whole) == BUMBAZEEL_SUCCESS && !memcmp(&d, &want, sizeof d));
+
+    /* the page is its header, which shows the generation, no areas and no reason */
+    bumbazeel_words(0x07, 0, 0, 1, 0, 1, ask);
+    expect(command(&d, ask, buffer, sizeof buffer) == BUMBAZEEL_SUCCESS && bumbazeel_check(0x07, 1, buffer, BLOCK, &fields) == BUMBAZEEL_SUCCESS);
+    expect(fields.host_generation == 255 && fields.available == 1 && fields.controller_generation == 1);
+    expect(all(fields.last, sizeof fields.last, 0) && all(fields.reason, sizeof fields.reason, 0));
+    bumbazeel_words(0x07, 0, 0, 1, 1, 1, ask);
+    expect(command(&d, ask, buffer, sizeof buffer) == BUMBAZEEL_SUCCESS && all(buffer, sizeof buffer, 0));
+    bumbazeel_words(0x07, 0, 0, 1, 2, 1, ask);
+    expect(command(&d, ask, buffer, sizeof buffer) == BUMBAZEEL_INVALID_FIELD && !memcmp(&d, &want, sizeof d));
+
+    /* no stores, and no bit of the capabilities */
+    struct bumbazeel_record alone, fresh;
+    expect(bumbazeel_fresh(0, 0xffffff, 2, 1, &fresh) == BUMBAZEEL_SUCCESS);
+    alone = fresh;
+    alone.host_generation = fresh.host_generation = 7;
+    memset(alone.host_reason, 0xab, sizeof alone.host_reason);
+    expect(bumbazeel_drop(&alone, NULL, 0, NULL, 0) == BUMBAZEEL_SUCCESS && !memcmp(&alone, &fresh, sizeof alone));
 }
 
 /* A whole collection of a page, from a drive that was captured on. */
@@ -264,6 +314,97 @@ static void collection(uint8_t page, uint8_t create, unsigned commands) {
     struct bumbazeel_state ended = state;
     expect(bumbazeel_step(&state, 1, NULL, 0, copy, sizeof copy, &next) == BUMBAZEEL_REFUSED && next.answer == BUMBAZEEL_ALREADY_ENDED);
     expect(!memcmp(&ended, &state, sizeof state) && all(next.words, sizeof next.words, 0) && next.count == 0);
+}
+
+/* A collection of areas (2,2,2,0) in which the data is dropped after so many commands: the run goes on from the header that shows it, and
+ * ends well with no blocks. */
+static void dropped_collection(uint32_t chunk, unsigned dropped_after, unsigned commands, unsigned refused) {
+    static const uint32_t last[4] = {2, 2, 2, 2};
+    const uint8_t caps = CAPS & ~BUMBAZEEL_DA4S;
+    struct drive d;
+    struct bumbazeel_state state;
+    struct bumbazeel_next next;
+    uint32_t ask[5];
+    uint8_t buffer[2 * BLOCK], copy[3 * BLOCK];
+    unsigned sent = 0, refusals = 0;
+    begin(&d);
+    d.record.caps = caps;
+    memcpy(d.last, last, sizeof last);
+    bumbazeel_words(0x07, 1, 0, 1, 0, 1, ask);
+    expect(command(&d, ask, buffer, sizeof buffer) == BUMBAZEEL_SUCCESS && d.record.host_last[2] == 2 && d.record.host_last[3] == 0);
+    memset(copy, 0x55, sizeof copy);
+    expect(bumbazeel_setup(0x07, 0, 3, caps, chunk, 2, sizeof copy, &state, &next) == BUMBAZEEL_SEND);
+    while (next.kind == BUMBAZEEL_SEND && sent < 100) {
+        size_t bytes = ((next.words[0] >> 16) + 1) * 4;
+        uint8_t answer = command(&d, next.words, buffer, sizeof buffer);
+        if (answer != BUMBAZEEL_SUCCESS) {
+            bytes = 0;
+            refusals++;
+        }
+        bumbazeel_step(&state, answer == BUMBAZEEL_SUCCESS, buffer, bytes, copy, sizeof copy, &next);
+        if (++sent == dropped_after)
+            expect(drop(&d) == BUMBAZEEL_SUCCESS);
+    }
+    expect(next.kind == BUMBAZEEL_ENDED && next.answer == BUMBAZEEL_SUCCESS && next.count == commands && sent == commands);
+    expect(refusals == refused && state.attempt == 2 && all(state.last, sizeof state.last, 0) && all(copy, sizeof copy, 0));
+}
+
+/* An acknowledgement is newer by its generation alone, whatever last blocks it shows. */
+static void acknowledgements(const struct bumbazeel_state *awaits, const uint8_t *header, uint8_t *copy, size_t room) {
+    for (uint8_t newer = 0; newer < 2; newer++) {
+        struct bumbazeel_state state = *awaits;
+        struct bumbazeel_next next;
+        uint8_t shown[BLOCK];
+        memcpy(shown, header, sizeof shown);
+        memset(shown + 8, 0, 12);
+        shown[383] = (uint8_t)(shown[383] + newer);
+        expect(bumbazeel_step(&state, 1, shown, sizeof shown, copy, room, &next) == BUMBAZEEL_ENDED);
+        expect(next.answer == BUMBAZEEL_SUCCESS && next.newer == newer);
+    }
+}
+
+/* A later header matches by its generation and each of the four last blocks, on both pages; after a refused chunk a match is 12. */
+static void matches(uint8_t page) {
+    const uint32_t last[4] = {1, 2, 3, 4};
+    for (int differs = -1; differs < 5; differs++) {
+        struct drive d;
+        struct bumbazeel_state state, awaits;
+        struct bumbazeel_next next;
+        uint32_t ask[5];
+        uint8_t header[BLOCK], copy[4 * BLOCK];
+        begin(&d);
+        d.record.available = 1;
+        memcpy(d.record.host_last, last, sizeof last);
+        memcpy(d.record.controller_last, last, sizeof last);
+        bumbazeel_words(page, 0, 0, 1, 0, 1, ask);
+        expect(bumbazeel_setup(page, 0, 1, CAPS, 1, 2, sizeof copy, &awaits, &next) == BUMBAZEEL_SEND);
+        expect(command(&d, ask, header, sizeof header) == BUMBAZEEL_SUCCESS);
+        expect(bumbazeel_step(&awaits, 1, header, sizeof header, copy, sizeof copy, &next) == BUMBAZEEL_SEND);
+        if (differs >= 0 && differs < 4)
+            awaits.last[differs] = differs ? last[differs] - 1 : 0;
+        else if (differs == 4)
+            awaits.generation++;
+        awaits.at = 0;
+        memset(header + 384, 0xcd, 128); /* the reason is not compared */
+        awaits.phase = BUMBAZEEL_AWAITS_CLOSING_HEADER;
+        state = awaits;
+        uint8_t kind = bumbazeel_step(&state, 1, header, sizeof header, copy, sizeof copy, &next);
+        if (differs >= 0)
+            expect(kind == BUMBAZEEL_SEND && state.attempt == 2 && state.phase == BUMBAZEEL_AWAITS_CHUNK && !memcmp(state.last, last, sizeof last));
+        else if (page == 0x07)
+            expect(kind == BUMBAZEEL_ENDED && next.answer == BUMBAZEEL_SUCCESS);
+        else
+            expect(kind == BUMBAZEEL_SEND && state.attempt == 1 && state.phase == BUMBAZEEL_AWAITS_ACKNOWLEDGEMENT);
+        if (state.phase == BUMBAZEEL_AWAITS_ACKNOWLEDGEMENT)
+            acknowledgements(&state, header, copy, sizeof copy);
+        awaits.phase = BUMBAZEEL_AWAITS_CLOSING_HEADER_AFTER_REFUSAL;
+        state = awaits;
+        kind = bumbazeel_step(&state, 1, header, sizeof header, copy, sizeof copy, &next);
+        if (differs >= 0)
+            expect(kind == BUMBAZEEL_SEND && state.attempt == 2 && state.phase == BUMBAZEEL_AWAITS_CHUNK);
+        else
+            expect(kind == BUMBAZEEL_ENDED && next.answer == BUMBAZEEL_BROKE_ITS_WORD);
+    }
 }
 
 /* Parts of 4 MiB and more take another way through the library than small ones: a candidate into each store, a transfer, and the chunks of
@@ -397,8 +538,14 @@ int main(void) {
     words();
     fresh();
     controller();
+    drops();
     collection(0x07, 1, 4);
     collection(0x08, 0, 5);
+    dropped_collection(1, 1, 5, 1); /* H D c1 c2! h h */
+    dropped_collection(2, 1, 4, 0); /* H D c1 h h */
+    dropped_collection(1, 3, 5, 0); /* H c1 c2 D h h */
+    matches(0x07);
+    matches(0x08);
     large();
     flags();
     limits();

@@ -49,6 +49,7 @@ fresh = function("fresh", c_uint8, c_uint8, c_uint32, c_uint8, c_uint8, POINTER(
 command = function("command", c_uint8, POINTER(Record), BYTES, c_size_t, BYTES, c_size_t, c_uint32 * 4, BYTES, c_size_t, BYTES, c_size_t,
                    WORDS, BYTES, c_size_t, POINTER(c_uint8))
 capture = function("capture", c_uint8, POINTER(Record), BYTES, c_size_t, BYTES, c_size_t, c_uint32 * 4, BYTES, c_size_t, BYTES, c_size_t)
+drop = function("drop", c_uint8, POINTER(Record), BYTES, c_size_t, BYTES, c_size_t)
 class_of = function("class", c_uint8, c_uint8)
 status_of = function("status", c_uint16, c_uint8)
 
@@ -98,6 +99,44 @@ same("the commands", [[0x007F8008, 0, 0], [0x017F8008, 0, 512], [0x007F8008, 0, 
 same("the ending", (1, 0, 0, 5), (then.kind, then.answer, then.newer, then.count))
 same("the copy", contents + bytes(2 * BLOCK), bytes(copy))
 same("a step after the ending, with no data", (2, 14), (step(byref(state), 1, None, 0, copy, len(copy), byref(then)), then.answer))
+
+stores = (host, len(host), controller, len(controller))
+short = (host, len(host) - 1, controller, len(controller))
+created = command(byref(record), *stores, *candidate, WORDS(0x007F8107), data, len(data), byref(identifier_class))
+same("a create", (0, 1, [1, 2, 3, 4], reason), (created, record.host_generation, list(record.host_last), bytes(record.host_reason)))
+before, held = bytes(record), (bytes(host), bytes(controller))
+same("a drop with a short store", (4, before), (drop(byref(record), *short), bytes(record)))
+same("a drop with no host store", (4, before), (drop(byref(record), None, 0, controller, len(controller)), bytes(record)))
+record.zero = 1
+damaged = bytes(record)
+same("a drop on a damaged record", (4, damaged), (drop(byref(record), *stores), bytes(record)))
+record.zero = 0
+dropped = before[:12] + bytes(16) + before[28:44] + bytes(128) + before[172:]
+same("a drop", (0, dropped), (drop(byref(record), *stores), bytes(record)))
+same("a drop with no stores", (0, dropped), (drop(byref(record), None, 0, None, 0), bytes(record)))
+same("the stores after drops", held, (bytes(host), bytes(controller)))
+
+
+def dropped_run(chunk, dropped_after):
+    """Collects areas (2,2,2,0) and drops them after so many commands: commands, refusals, ending, count and copy."""
+    fresh(EVERY_CAP & ~4, 0, 1, 1, byref(record))
+    record.host_last[:] = [2, 2, 2, 0]
+    copy = (c_uint8 * (2 * BLOCK))(*[5] * (2 * BLOCK))
+    setup(7, 0, 3, record.caps, chunk, 2, len(copy), byref(state), byref(then))
+    sent = refused = 0
+    while then.kind == 0 and sent < 10:
+        size = ((then.words[0] >> 16) + 1) * 4
+        answer = command(byref(record), *stores, *candidate, then.words, data, len(data), byref(identifier_class))
+        step(byref(state), answer == 0, data, size if answer == 0 else 0, copy, len(copy), byref(then))
+        sent, refused = sent + 1, refused + (answer != 0)
+        if sent == dropped_after:
+            same("a drop in a run", 0, drop(byref(record), *stores))
+    return sent, refused, then.kind, then.answer, then.count, bytes(copy)
+
+
+same("H D c1 c2! h h", (5, 1, 1, 0, 5, bytes(2 * BLOCK)), dropped_run(1, 1))
+same("H D c1 h h", (4, 0, 1, 0, 4, bytes(2 * BLOCK)), dropped_run(2, 1))
+same("H c1 c2 D h h", (5, 0, 1, 0, 5, bytes(2 * BLOCK)), dropped_run(1, 3))
 if not failures:
     print("boundary: ok")
 sys.exit(failures > 0)

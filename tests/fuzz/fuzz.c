@@ -31,7 +31,7 @@ static void broken(const char *test, int line) {
 
 /* ---- what was reached */
 
-enum function { CHECK, BUILD, SETUP, STEP, FRESH, COMMAND, CAPTURE, NUMBERS, FUNCTIONS };
+enum function { CHECK, BUILD, SETUP, STEP, FRESH, COMMAND, CAPTURE, DROP, NUMBERS, FUNCTIONS };
 enum { VARIANTS = 8, ANSWERS = 32, SENDS = 16 }; /* a step that goes on counts as answer 16 */
 __attribute__((section("__libfuzzer_extra_counters"))) static uint8_t reached[FUNCTIONS][VARIANTS][ANSWERS];
 
@@ -176,6 +176,13 @@ static uint8_t check(uint8_t page, uint8_t da4s) {
     return answer;
 }
 
+/* Two bytes for the last block of areas 1 to 3, four for area 4's. */
+static void put_last_block(uint8_t *header, int area, uint32_t last) {
+    int at = area == 3 ? 16 : 8 + 2 * area;
+    for (int i = 0; i < (area == 3 ? 4 : 2); i++)
+        header[at + i] = (uint8_t)(last >> 8 * i);
+}
+
 /* A header as the input says, good ones and bad ones. */
 static void make_header(uint8_t page) {
     uint8_t *h = lend(DATA, BLOCK, 0);
@@ -184,9 +191,7 @@ static void make_header(uint8_t page) {
     h[0] = shape & 1 ? byte() : page;
     for (int area = 0; area < 4; area++) {
         uint32_t last = number() + (shape & 2 ? 0 : before);
-        int at = area == 3 ? 16 : 8 + 2 * area;
-        for (int i = 0; i < (area == 3 ? 4 : 2); i++)
-            h[at + i] = (uint8_t)(last >> 8 * i);
+        put_last_block(h, area, last);
         before = last;
     }
     h[380] = shape & 4 ? byte() : 1;
@@ -450,6 +455,21 @@ static void capture(void) {
     reach(CAPTURE, 0, answer);
 }
 
+/* A drop looks at both stores, and changes the host's part of the record alone. */
+static void drop(void) {
+    bool empty = zeros(THE_RECORD->host_last, sizeof THE_RECORD->host_last);
+    uint8_t answer = bumbazeel_drop(THE_RECORD, slots[HOST].lent, slots[HOST].bytes, slots[CONTROLLER].lent, slots[CONTROLLER].bytes);
+    must(answer == BUMBAZEEL_SUCCESS || answer == BUMBAZEEL_DISAGREE);
+    judge_agreement(answer);
+    if (!answer) {
+        struct bumbazeel_record *want = image(RECORD);
+        memset(want->host_last, 0, sizeof want->host_last);
+        memset(want->host_reason, 0, REASON_BYTES);
+    }
+    slots_are_as_they_must();
+    reach(DROP, empty, answer);
+}
+
 /* ---- the collection */
 
 static bool untouched; /* the state comes from setup, and only steps have changed it */
@@ -500,6 +520,9 @@ static void step_was_refused(const struct bumbazeel_state *before) {
     must(!untouched || next->answer == (before->phase == BUMBAZEEL_AWAITS_NOTHING ? BUMBAZEEL_ALREADY_ENDED : BUMBAZEEL_DOES_NOT_FIT));
 }
 
+/* Where a header has its page's own generation. */
+static int generation_place(uint8_t page) { return page == HEADER_07 ? 381 : 383; }
+
 static void run_ended(const struct bumbazeel_state *before) {
     const struct bumbazeel_next *next = THE_NEXT;
     bool success = next->answer == BUMBAZEEL_SUCCESS;
@@ -508,8 +531,41 @@ static void run_ended(const struct bumbazeel_state *before) {
     must(THE_STATE->phase == BUMBAZEEL_AWAITS_NOTHING && zeros(next->words, 20) && next->newer <= (success && before->phase == BUMBAZEEL_AWAITS_ACKNOWLEDGEMENT));
     must(!untouched || before->phase != BUMBAZEEL_AWAITS_ACKNOWLEDGEMENT || before->page == HEADER_08);
     must(next->count == before->count && (!untouched || next->count == sent) && kept <= slots[COPY].bytes);
+    if (success && before->phase == BUMBAZEEL_AWAITS_ACKNOWLEDGEMENT)
+        must(next->newer == (slots[DATA].lent[generation_place(before->page)] != before->generation));
     if (slots[COPY].bytes)
         memset((uint8_t *)image(COPY) + kept, 0, slots[COPY].bytes - kept);
+}
+
+/* A header that does not match the attempt's opens the next one, if there is one and the copy has room for its area. */
+static void attempt_failed(const struct bumbazeel_state *before, const struct bumbazeel_fields *f, uint8_t generation) {
+    const struct bumbazeel_state *s = THE_STATE;
+    const struct bumbazeel_next *next = THE_NEXT;
+    bool used_up = before->attempt == before->attempts, large = (uint64_t)f->last[before->area - 1] * BLOCK > before->room;
+    if (used_up || large)
+        must(next->kind == BUMBAZEEL_ENDED && next->answer == (used_up ? BUMBAZEEL_ATTEMPTS_USED_UP : BUMBAZEEL_NO_ROOM));
+    else
+        must(next->kind == BUMBAZEEL_SEND && s->attempt == before->attempt + 1 && s->generation == generation &&
+             !memcmp(s->last, f->last, sizeof s->last));
+}
+
+/* A later header matches by its generation and all four last blocks. */
+static void later_header_was_judged(const struct bumbazeel_state *before) {
+    const uint8_t *h = slots[DATA].lent;
+    const struct bumbazeel_next *next = THE_NEXT;
+    struct bumbazeel_fields f;
+    bool host = before->page == HEADER_07;
+    uint8_t generation = h[generation_place(before->page)];
+    if (bumbazeel_check(before->page, before->caps & BUMBAZEEL_DA4S, h, BLOCK, &f))
+        must(next->answer == BUMBAZEEL_BAD_HEADER);
+    else if (!host && !f.available)
+        must(next->answer == BUMBAZEEL_WITHDRAWN);
+    else if (generation != before->generation || memcmp(f.last, before->last, sizeof f.last))
+        attempt_failed(before, &f, generation);
+    else if (before->phase == BUMBAZEEL_AWAITS_CLOSING_HEADER_AFTER_REFUSAL)
+        must(next->answer == BUMBAZEEL_BROKE_ITS_WORD);
+    else
+        must(host ? next->kind == BUMBAZEEL_ENDED && !next->answer : THE_STATE->phase == BUMBAZEEL_AWAITS_ACKNOWLEDGEMENT);
 }
 
 /* Lends the completion in the slot for data. */
@@ -526,6 +582,8 @@ static void step(uint8_t ok) {
         must(before.phase < BUMBAZEEL_AWAITS_NOTHING && (before.phase != BUMBAZEEL_AWAITS_CHUNK || kind == BUMBAZEEL_SEND));
         if (before.phase == BUMBAZEEL_AWAITS_CHUNK && ok)
             memcpy((uint8_t *)image(COPY) + (size_t)(before.at - 1) * BLOCK, slots[DATA].lent, slots[DATA].bytes);
+        if (ok && (before.phase == BUMBAZEEL_AWAITS_CLOSING_HEADER || before.phase == BUMBAZEEL_AWAITS_CLOSING_HEADER_AFTER_REFUSAL))
+            later_header_was_judged(&before);
         accept_all(STATE);
     }
     if (kind == BUMBAZEEL_SEND) {
@@ -551,12 +609,29 @@ static void step_with_the_drive(void) {
     step(ok);
 }
 
+/* A header that shows what the attempt's showed, but for one byte that the input may change. */
+static void make_matching_header(void) {
+    const struct bumbazeel_state *s = THE_STATE;
+    const int generation = generation_place(s->page), places[] = {8, 10, 12, 16, generation, 384, 382, 0};
+    uint8_t *h = lend(DATA, BLOCK, 0);
+    h[0] = s->page;
+    for (int area = 0; area < 4; area++)
+        put_last_block(h, area, s->last[area]);
+    h[382] = 1;
+    h[generation] = s->generation;
+    int place = places[byte() % (sizeof places / sizeof *places)];
+    h[place] = (uint8_t)(h[place] + byte());
+    settle(DATA);
+}
+
 /* A completion as the input says. */
 static void step_with_anything(void) {
     uint8_t what = byte();
     size_t awaited = transfer_bytes(THE_NEXT->words, true);
-    if (what < 0x60)
+    if (what < 0x40)
         make_header(THE_STATE->page);
+    else if (what < 0x60)
+        make_matching_header();
     else if (what < 0xB0)
         lend(DATA, about(awaited < MOST ? awaited : MOST), what);
     else
@@ -576,6 +651,8 @@ static void run(void) {
             command_of_anything();
         else if (happening >= 0xC0)
             capture();
+        else if (happening >= 0xB0)
+            drop();
         else
             step_with_the_drive();
     }
@@ -594,7 +671,7 @@ static void change_copy(void) { lend(COPY, about(byte() % (MOST_BLOCKS + 1) * (s
 
 static void (*const calls[])(void) = {
     run,   command_of_anything, capture, step_with_anything, fresh,         fill_record,  setup,       check_of_anything,
-    build, numbers,             damage_record,               change_stores, damage_state, change_copy,
+    build, numbers,             damage_record,               change_stores, damage_state, change_copy,  drop,
 };
 
 static void begin(void) {
@@ -626,7 +703,7 @@ int LLVMFuzzerTestOneInput(const uint8_t *bytes, size_t count) {
 
 #ifdef REPLAY
 static void tell_reached(void) {
-    static const char *const names[FUNCTIONS] = {"check", "words", "setup", "step", "fresh", "command", "capture", "class"};
+    static const char *const names[FUNCTIONS] = {"check", "words", "setup", "step", "fresh", "command", "capture", "drop", "class"};
     for (int f = 0; f < FUNCTIONS; f++) {
         printf("%s:", names[f]);
         for (int a = 0; a < ANSWERS; a++) {

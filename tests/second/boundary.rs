@@ -1,5 +1,5 @@
 //! The second opinion across the C boundary: the same functions as `bumbazeel.h`, on the bytes of its structs at the offsets that the
-//! header file writes beside each field. Written from the header file's words and document 01.
+//! header file writes beside each field. Written from the header file's words and documents 01 and 02.
 
 use crate::controller::{self, Candidate, Record};
 use crate::host::{self, Awaited, Collection, Fields, Outcome, Plan};
@@ -319,6 +319,15 @@ pub fn capture(
         return DISAGREE;
     };
     let answer = controller::capture(&mut held, host_store, controller_store, candidate);
+    *record = write_record(&held);
+    answer
+}
+
+pub fn drop_host_data(record: &mut [u8; RECORD_BYTES], host_store: &[u8], controller_store: &[u8]) -> u8 {
+    let Some(mut held) = read_record(record) else {
+        return DISAGREE;
+    };
+    let answer = controller::drop_host_data(&mut held, host_store, controller_store);
     *record = write_record(&held);
     answer
 }

@@ -1,5 +1,5 @@
-//! The controller side: agreement, captures, and Get Log Page on pages 07h and 08h.
-//! Written from document 01, sections "Command words", "Header bytes", "Captures", "Answer numbers".
+//! The controller side: agreement, captures, drops, and Get Log Page on pages 07h and 08h.
+//! Written from document 01, sections "Command words", "Header bytes", "Captures", "Answer numbers", and document 02, Q-1.
 
 use crate::rules::*;
 
@@ -132,6 +132,17 @@ pub fn capture(record: &mut Record, host_store: &[u8], controller_store: &mut [u
     record.controller_reason = reason_of(candidate);
     record.available = 1;
     record.notice = true;
+    SUCCESS
+}
+
+/// A Firmware Commit or power on: the host's four last blocks and reason become zero, the generation stays. 0 or 4. Both stores are only
+/// looked at, and 08h is not touched.
+pub fn drop_host_data(record: &mut Record, host_store: &[u8], controller_store: &[u8]) -> u8 {
+    if disagree(record, host_store, controller_store) {
+        return DISAGREE;
+    }
+    record.host_last = [0; 4];
+    record.host_reason = [0; REASON];
     SUCCESS
 }
 

@@ -26,6 +26,7 @@ pub mod at {
     pub const HOST_LAST: usize = 12;
     pub const CONTROLLER_LAST: usize = 28;
     pub const REASONS: usize = 44;
+    pub const CONTROLLER_REASON: usize = 172;
 }
 
 pub fn last_of(record: &[u8], at: usize) -> LastBlocks {
@@ -130,6 +131,21 @@ pub fn damage_world(random: &mut Random, world: &mut World) {
         8 => hide_areas(random, world),
         9 | 10 => shorten_store(random, world),
         _ => break_last_blocks(random, world),
+    }
+}
+
+/// Puts any bytes into a record: a few of them at any places, or all.
+pub fn scramble_record(random: &mut Random, world: &mut World) {
+    if random.chance(20) {
+        random.fill(&mut world.record);
+        return;
+    }
+    for _ in 0..random.pick(&[1, 1, 2, 4]) {
+        let any = random.byte();
+        let place = random.up_to(RECORD_BYTES as u32 - 1) as usize;
+        // The bytes before the reasons are the ones that are judged.
+        let place = if random.chance(80) { place % at::REASONS } else { place };
+        world.record[place] = random.pick(&[any, 0, 1, 2, 3, 255]);
     }
 }
 

@@ -1,5 +1,5 @@
 //! The host side: header check, command builder and the collection.
-//! Written from document 01, section "Host: header check and collection".
+//! Written from document 01, section "Host: header check and collection", and document 02, Q-1.
 
 use crate::rules::*;
 
@@ -291,6 +291,11 @@ impl Collection {
         self.open_attempt(data, &fields, copy)
     }
 
+    /// Whether a later header matches the one that opened the attempt: by the generation and all four last blocks.
+    fn matches(&self, data: &[u8], fields: &Fields) -> bool {
+        data[generation_byte(self.plan.page)] == self.generation && fields.last == self.last
+    }
+
     /// Order at a later header: 7, 10, then on mismatch 9, else 8.
     fn take_later_header(&mut self, data: &[u8], copy: &mut [u8]) -> Outcome {
         let Some(fields) = self.check(data) else {
@@ -299,7 +304,7 @@ impl Collection {
         if self.plan.page == CONTROLLER_PAGE && fields.available == 0 {
             return self.end(WITHDRAWN, false, copy);
         }
-        if data[generation_byte(self.plan.page)] == self.generation {
+        if self.matches(data, &fields) {
             return if self.awaited == Awaited::HeaderAfterRefusal {
                 self.end(BROKE_ITS_WORD, false, copy)
             } else if self.plan.page == CONTROLLER_PAGE {

@@ -136,6 +136,9 @@ pub fn limits(pair: &mut Pair, _: &mut Random) -> Same<()> {
         if limit.cdw10 == CREATE {
             controller_limit(&mut regions, limit)?;
         }
+        if limit.cdw10 == READ {
+            drop_limit(&regions, limit)?;
+        }
     }
     far_chunk(&mut regions)?;
     for (count, limit) in [(536_870_912, SEND), (536_871_424, 2)] {
@@ -233,6 +236,18 @@ fn controller_limit(regions: &mut Regions, limit: &Limit) -> Same<()> {
     let own = boundary::capture(&mut record, read, own_store, &offer);
     let problem = lent_record.problem("record", &record);
     tell("capture", limit, given == own, problem, given, own)
+}
+
+/// A drop of what is read at a limit: it knows no offset, so it is 4 where the read is and else 0.
+fn drop_limit(regions: &Regions, limit: &Limit) -> Same<()> {
+    let store = &regions.read[..limit.store];
+    let mut record = record_of(limit.caps, limit.host_last);
+    let mut lent_record = Lent::new(&record, 0, false);
+    let given = library::drop_host_data(&mut lent_record, read_only(store), read_only(&regions.read));
+    let own = boundary::drop_host_data(&mut record, store, &regions.read);
+    let answer = if limit.answer == DISAGREE { DISAGREE } else { SUCCESS };
+    let problem = lent_record.problem("record", &record);
+    tell("drop", &Limit { answer, ..*limit }, given == own, problem, given, own)
 }
 
 /// The last blocks of the largest area 4 into the largest copy.

@@ -55,6 +55,13 @@ extern "C" {
         reason: *const u8,
         reason_bytes: usize,
     ) -> u8;
+    fn bumbazeel_drop(
+        record: *mut u8,
+        host_store: *const u8,
+        host_bytes: usize,
+        controller_store: *const u8,
+        controller_bytes: usize,
+    ) -> u8;
     fn bumbazeel_class(page: u8) -> u8;
     fn bumbazeel_status(answer: u8) -> u16;
 }
@@ -129,6 +136,18 @@ pub fn capture(loan: &Loan) -> u8 {
             loan.candidate.length,
             loan.reason.pointer,
             loan.reason.length,
+        )
+    }
+}
+
+pub fn drop_host_data(record: &mut Lent, host_store: Slice, controller_store: Slice) -> u8 {
+    unsafe {
+        bumbazeel_drop(
+            record.pointer(),
+            host_store.pointer,
+            host_store.length,
+            controller_store.pointer,
+            controller_store.length,
         )
     }
 }

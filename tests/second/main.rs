@@ -1,7 +1,8 @@
 //! The second opinion: an independent telemetry bench for NVMe pages 07h and 08h, and the program that compares the library with it.
 //!
-//! Written from the rules document (document 01), its source documents, docs/DECISIONS.md where they leave a choice, and the C header
-//! file alone, and not from the library's definitions or code, so that a rule misread there is not misread here in the same way.
+//! Written from the rules document (document 01), the requests of document 02 that have landed, their source documents,
+//! docs/DECISIONS.md where they leave a choice, and the C header file alone, and not from the library's definitions or code, so that a rule
+//! misread there is not misread here in the same way.
 //! `rules`, `controller`, `host` and `boundary` are the bench, as plain as the paper's words. The rest lends the same bytes to the
 //! library and to that bench, from a seed, and compares every answer and every lent byte after every call.
 
@@ -37,7 +38,7 @@ struct Kind {
     case: Case,
 }
 
-const KINDS: [Kind; 33] = [
+const KINDS: [Kind; 39] = [
     Kind { name: "01: rows of a page", share: 0, case: outside::page_rows },
     Kind { name: "01: rows of trimming", share: 0, case: outside::trimming_rows },
     Kind { name: "01: rows and listing", share: 0, case: outside::collection_rows },
@@ -51,8 +52,10 @@ const KINDS: [Kind; 33] = [
     Kind { name: "004: command's fields", share: 0, case: outside::controller_fields },
     Kind { name: "004: no extended data", share: 0, case: outside::without_extended_data },
     Kind { name: "004: identifiers", share: 0, case: outside::identifier_table },
+    Kind { name: "02: a commit in a run", share: 0, case: outside::commit_in_a_run },
     Kind { name: "classes", share: 0, case: singles::classes },
     Kind { name: "statuses", share: 0, case: singles::statuses },
+    Kind { name: "drops and store lengths", share: 0, case: singles::store_lengths },
     Kind { name: "scripted runs", share: 0, case: runs::scripts },
     Kind { name: "limits of areas", share: 0, case: large::limits },
     Kind { name: "large copies", share: 1, case: large::copies },
@@ -63,14 +66,18 @@ const KINDS: [Kind; 33] = [
     Kind { name: "damaged records", share: 600, case: singles::damaged },
     Kind { name: "commands", share: 1_000, case: singles::commands },
     Kind { name: "captures", share: 400, case: singles::captures },
+    Kind { name: "drops", share: 500, case: singles::drops },
     Kind { name: "steps", share: 2_000, case: steps::steps },
     Kind { name: "order of commands", share: 1_000, case: orders::commands },
     Kind { name: "order of captures", share: 200, case: orders::captures },
+    Kind { name: "order of drops", share: 200, case: orders::drops },
     Kind { name: "order of setups", share: 200, case: orders::setups },
     Kind { name: "order of steps", share: 400, case: orders::steps },
     Kind { name: "order at first headers", share: 300, case: orders::first_headers },
     Kind { name: "order at later headers", share: 600, case: orders::later_headers },
+    Kind { name: "matching headers", share: 600, case: orders::matches },
     Kind { name: "runs", share: 400, case: runs::runs },
+    Kind { name: "runs of k", share: 300, case: runs::runs_of_k },
 ];
 
 const USAGE: &str =

@@ -1,5 +1,5 @@
-//! Orders of refusals: inputs that break several rules at once. Which answer is due follows here from document 01's list alone, so these
-//! cases are a third opinion on the order.
+//! Orders of refusals: inputs that break several rules at once. Which answer is due follows here from document 01's list and document 02's
+//! additions to it alone, so these cases are a third opinion on the order.
 
 use crate::boundary::{put_u32, put_u64, Setup, SEND, STATE_BYTES};
 use crate::generate::{self, at, DA4S, ETDAS, EXTENDED, MCDAS, TELEMETRY};
@@ -64,11 +64,15 @@ fn good_parts(random: &mut Random) -> Parts {
     }
 }
 
+/// A record that disagrees, or a damaged one.
 fn break_agreement(random: &mut Random, world: &mut World) {
-    match random.up_to(3) {
+    match random.up_to(6) {
         0 => world.record[at::HOST_SCOPE] = 0,
         1 => world.record[at::CONTROLLER_SCOPE] = 3,
         2 => world.record[at::AVAILABLE] = 2,
+        3 => world.record[at::CAPS] |= random.pick(&[32, 128]),
+        4 => world.record[at::NOTICE] = random.pick(&[2, 255]),
+        5 => world.record[at::ZERO] = random.pick(&[1, 128]),
         _ => put_u32(&mut world.record, at::OUI, 0x0100_0000),
     }
 }
@@ -150,6 +154,27 @@ pub fn captures(pair: &mut Pair, random: &mut Random) -> Same<()> {
     }
     let given = pair.capture(&mut world, &offer)?;
     expect("order of a capture", first(&[(DISAGREE, disagree), (BROKEN_CANDIDATE, broken)]), given)
+}
+
+/// A drop is 4 or 0, whatever the capabilities are; 0 zeroes the host's last blocks and reason and leaves every other byte.
+pub fn drops(pair: &mut Pair, random: &mut Random) -> Same<()> {
+    let caps = random.byte() & 31;
+    let mut world = generate::world(random, caps);
+    let disagree = random.chance(30);
+    if disagree {
+        break_agreement(random, &mut world);
+    }
+    let mut due = world.clone();
+    if !disagree {
+        due.record[at::HOST_LAST..at::CONTROLLER_LAST].fill(0);
+        due.record[at::REASONS..at::CONTROLLER_REASON].fill(0);
+    }
+    let given = pair.drop_host_data(&mut world)?;
+    expect("a drop", first(&[(DISAGREE, disagree)]), given)?;
+    let same = world.record == due.record
+        && world.host_store == due.host_store
+        && world.controller_store == due.controller_store;
+    expect("whether a drop leaves what it must", 1, same as u8)
 }
 
 /// 13 before 6.
@@ -243,10 +268,15 @@ fn break_header(random: &mut Random, page: u8, header: &mut [u8]) {
     }
 }
 
-/// A good header of `blocks` blocks in every area, with data available.
-fn plain_header(random: &mut Random, setup: Setup, blocks: u32, generation: u8) -> Vec<u8> {
+/// The same last block in every area, but none in area 4 without DA4S.
+fn even_last(setup: Setup, blocks: u32) -> LastBlocks {
     let fourth = if setup.caps & DA4S != 0 { blocks } else { 0 };
-    let mut header = generate::header(random, setup.page, [blocks, blocks, blocks, fourth]);
+    [blocks, blocks, blocks, fourth]
+}
+
+/// A good header of these last blocks, with data available.
+fn plain_header(random: &mut Random, setup: Setup, last: LastBlocks, generation: u8) -> Vec<u8> {
+    let mut header = generate::header(random, setup.page, last);
     header[382] = 1;
     header[if setup.page == HOST_PAGE { 381 } else { 383 }] = generation;
     header
@@ -259,7 +289,7 @@ pub fn first_headers(pair: &mut Pair, random: &mut Random) -> Same<()> {
     let mut state = header_state(setup, 0, 1, 0, [0; 4]);
     let blocks = if large { 5 + random.up_to(300) } else { 1 + random.up_to(3) };
     let generation = random.byte();
-    let mut header = plain_header(random, setup, blocks, generation);
+    let mut header = plain_header(random, setup, even_last(setup, blocks), generation);
     if nothing {
         header[382] = 0;
     }
@@ -277,14 +307,17 @@ pub fn first_headers(pair: &mut Pair, random: &mut Random) -> Same<()> {
 pub fn later_headers(pair: &mut Pair, random: &mut Random) -> Same<()> {
     let mut setup = small_setup(random, 4);
     setup.attempts = setup.attempts.max(2);
-    let [bad, withdrawn, mismatch, used_up, large] = [(); 5].map(|()| random.chance(50));
+    let [bad, withdrawn, captured, used_up, large] = [(); 5].map(|()| random.chance(50));
     let phase = random.pick(&[2, 3]);
     let attempt = if used_up { setup.attempts } else { 1 + random.up_to(setup.attempts - 2) };
     let generation = random.byte();
-    let mut state = header_state(setup, phase, attempt, generation, [1, 2, 3, 4]);
-    let blocks = if large { 5 + random.up_to(300) } else { 1 + random.up_to(3) };
-    let shown = generation.wrapping_add(mismatch as u8 * random.pick(&[1, 255, 128]));
-    let mut header = plain_header(random, setup, blocks, shown);
+    let held = 1 + random.up_to(3);
+    let mut state = header_state(setup, phase, attempt, generation, even_last(setup, held));
+    let small = 1 + random.up_to(3);
+    let blocks = if large { 5 + random.up_to(300) } else { random.pick(&[held, held, small]) };
+    let mismatch = captured || blocks != held;
+    let shown = generation.wrapping_add(captured as u8 * random.pick(&[1, 255, 128]));
+    let mut header = plain_header(random, setup, even_last(setup, blocks), shown);
     if withdrawn {
         header[382] = 0;
     }
@@ -303,4 +336,60 @@ pub fn later_headers(pair: &mut Pair, random: &mut Random) -> Same<()> {
     expect("order at a later header", due, next[1])?;
     let goes_on = due == SUCCESS && (mismatch || setup.page == CONTROLLER_PAGE);
     expect("whether a later header is followed by a command", goes_on as u8, (next[0] == SEND) as u8)
+}
+
+/// What alone differs between the attempt's header and a later one.
+#[derive(Clone, Copy)]
+enum Differs {
+    Nothing,
+    Generation,
+    /// the last block of the area at this index
+    Last(usize),
+}
+
+/// Moves one last block of an attempt's header by one. Without DA4S a header shows no area 4, but a state may hold one.
+fn moved_last(random: &mut Random, mut last: LastBlocks, index: usize) -> LastBlocks {
+    last[index] = if last[index] > 0 && random.chance(50) { last[index] - 1 } else { last[index] + 1 };
+    last
+}
+
+/// A later header matches by the generation and all four last blocks: each of the five is changed alone, and without a change a header of
+/// any other reason, scope, OUI and other page's generation matches. After a refused chunk a match is 12, and nothing else is.
+pub fn matches(pair: &mut Pair, random: &mut Random) -> Same<()> {
+    let setup = Setup { attempts: 2 + random.up_to(3), ..small_setup(random, 12) };
+    let differs = random.pick(&[
+        Differs::Nothing,
+        Differs::Nothing,
+        Differs::Generation,
+        Differs::Last(0),
+        Differs::Last(1),
+        Differs::Last(2),
+        Differs::Last(3),
+    ]);
+    let (generation, mut shown) = (random.byte(), [2, 4, 6, 8]);
+    if setup.caps & DA4S == 0 {
+        shown[3] = 0;
+    }
+    let (held_generation, held) = match differs {
+        Differs::Nothing => (generation, shown),
+        Differs::Generation => (generation.wrapping_add(random.pick(&[1, 128, 255])), shown),
+        Differs::Last(index) => (generation, moved_last(random, shown, index)),
+    };
+    let (phase, attempt) = (random.pick(&[2, 3]), 1 + random.up_to(setup.attempts - 1));
+    let mut state = header_state(setup, phase, attempt, held_generation, held);
+    let header = plain_header(random, setup, shown, generation);
+    let mut copy = random.bytes(12 * BLOCK);
+    let next = pair.step(&mut state, 1, &header, &mut copy)?;
+    let match_due = matches!(differs, Differs::Nothing);
+    let used_up = attempt == setup.attempts;
+    let refused_chunk = phase == 3;
+    let due = first(&[(BROKE_ITS_WORD, match_due && refused_chunk), (ATTEMPTS_USED_UP, !match_due && used_up)]);
+    expect("a header that is to be matched", due, next[1])?;
+    // 1: the first chunk of the next attempt; 4: the acknowledgement; 5: the end.
+    let phase_due = match (due, match_due, setup.page) {
+        (SUCCESS, false, _) => 1,
+        (SUCCESS, true, CONTROLLER_PAGE) => 4,
+        _ => 5,
+    };
+    expect("what a state awaits after a header that is to be matched", phase_due, state[0])
 }

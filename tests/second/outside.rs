@@ -1,5 +1,5 @@
-//! Vectors from outside: the rows and the listing of document 01, and tables of documents 000 to 004, typed in from there. Each check
-//! holds the pair to the table, so it is an opinion that neither the library nor the second opinion had a hand in.
+//! Vectors from outside: the rows and the listing of document 01, the stories of document 02, and tables of documents 000 to 004, typed in
+//! from there. Each check holds the pair to the table, so it is an opinion that neither the library nor the second opinion had a hand in.
 
 use crate::boundary::{get_u32, get_u64, Setup, ENDED, RECORD_BYTES, SEND};
 use crate::generate::{self, asked_bytes, at, DA4S, ETDAS, EXTENDED, MCDAS, TELEMETRY};
@@ -516,4 +516,45 @@ pub fn candidate_table(pair: &mut Pair, _: &mut Random) -> Same<()> {
         hold(given == of_three, &format!("create of {last:?} on a drive of three areas: {of_three}"))?;
     }
     Ok(())
+}
+
+/// Document 02, Q-1: "The lab updated firmware while I was collecting page 07h. The generation matched and I got a copy half real, half
+/// zeros." A commit sets "the host's four last blocks and reason to zero" and keeps "the generation and the store".
+pub fn commit_in_a_run(pair: &mut Pair, _: &mut Random) -> Same<()> {
+    let mut world = drive(EXTENDED | TELEMETRY, [2, 2, 4, 0]);
+    world.record[at::HOST_GENERATION] = 77;
+    world.record[at::REASONS..].fill(0xC7);
+    let (_, opening) = read(pair, &mut world, 7, 0, 512)?;
+    let (_, first_half) = read(pair, &mut world, 7, 512, 1_024)?;
+    let before = world.clone();
+    hold(pair.drop_host_data(&mut world)? == 0, "a drop gives 0")?;
+    hold(world.host_store == before.host_store, "a drop keeps the store")?;
+    let (_, closing) = read(pair, &mut world, 7, 0, 512)?;
+    hold(closing[381] == 77 && opening[381] == 77, "a drop keeps the generation")?;
+    hold(closing[8..20] == [0; 12] && closing[384..] == [0; 128], "a drop sets last blocks and reason to zero")?;
+    let page = (1, [0xDD; 512].to_vec());
+    hold(read(pair, &mut world, 7, 1_024, 512)? == page, "after a drop the page ends with its header")?;
+    half_copy(pair, &opening, &first_half, &closing)?;
+
+    let mut disagreeing = World { host_store: before.host_store[..4 * BLOCK - 1].to_vec(), ..before };
+    let record = disagreeing.record;
+    hold(
+        pair.drop_host_data(&mut disagreeing)? == 4 && disagreeing.record == record,
+        "a drop gives 4 and changes nothing",
+    )
+}
+
+/// The half copy needs a drive that serves zeros where ours refuses: header, the real half, the half of zeros, and the header of the page
+/// without areas. It does not match, so it opens the next attempt, which ends with no blocks.
+fn half_copy(pair: &mut Pair, opening: &[u8], first_half: &[u8], closing: &[u8]) -> Same<()> {
+    let caps = EXTENDED | TELEMETRY;
+    let setup = Setup { page: 7, create: 0, area: 3, caps, chunk: 2, attempts: 2, room: 4 * 512 };
+    let (mut state, _) = pair.setup(setup)?;
+    let mut copy = vec![0xDD; 4 * BLOCK];
+    for data in [opening, first_half, &[0; 2 * BLOCK], closing] {
+        hold(pair.step(&mut state, 1, data, &mut copy)?[0] == SEND, "the run goes on until a header matches")?;
+    }
+    let next = pair.step(&mut state, 1, closing, &mut copy)?;
+    hold(next[0] == ENDED && next[1] == 0 && get_u64(&next, 24) == 5, "the next attempt ends with 0 after 5 commands")?;
+    hold(copy == [0; 4 * BLOCK], "and its copy has no blocks")
 }

@@ -59,8 +59,6 @@ impl LentWorld {
     }
 }
 
-/// Where a state has its capabilities.
-
 /// Bytes that stand in what a call must write, so that a byte left out is seen.
 const STALE: u8 = 0x5A;
 
@@ -100,16 +98,18 @@ fn verify(answers: (u32, u32), parts: &[(&str, &Lent, &[u8])], call: &str, input
     }
 }
 
-fn describe_world(world: &World, offer: &Offer) -> String {
+fn describe_world(world: &World) -> String {
     format!(
-        "  record        {}\n  host store    {}\n  control store {}\n  candidate     {:?} {}\n  reason        {}",
+        "  record        {}\n  host store    {}\n  control store {}",
         hex(&world.record),
         hex(&world.host_store),
-        hex(&world.controller_store),
-        offer.last,
-        hex(&offer.bytes),
-        hex(&offer.reason)
+        hex(&world.controller_store)
     )
+}
+
+fn describe_loan(world: &World, offer: &Offer) -> String {
+    let (bytes, reason) = (hex(&offer.bytes), hex(&offer.reason));
+    format!("{}\n  candidate     {:?} {bytes}\n  reason        {reason}", describe_world(world), offer.last)
 }
 
 impl Pair {
@@ -275,7 +275,7 @@ impl Pair {
         ];
         verify((got.into(), want.into()), &parts, "command", || {
             let (shown, buffer) = (hex_words(&words), hex(buffer));
-            format!("{}\n  words         {shown}\n  buffer        {buffer}", describe_world(world, offer))
+            format!("{}\n  words         {shown}\n  buffer        {buffer}", describe_loan(world, offer))
         })?;
         *world = after;
         *buffer = filled;
@@ -298,9 +298,27 @@ impl Pair {
             ("candidate", &lent.candidate, &offer.bytes),
             ("reason", &lent.reason, &offer.reason),
         ];
-        verify((got.into(), want.into()), &parts, "capture", || describe_world(world, offer))?;
+        verify((got.into(), want.into()), &parts, "capture", || describe_loan(world, offer))?;
         *world = after;
         self.seen.note(Function::Capture, want);
+        Ok(want)
+    }
+
+    pub fn drop_host_data(&mut self, world: &mut World) -> Same<u8> {
+        let mut lent_record = Pair::lend_struct(&world.record);
+        let mut lent_host_store = self.lend(&world.host_store);
+        let mut lent_controller_store = self.lend(&world.controller_store);
+        let got = library::drop_host_data(&mut lent_record, lent_host_store.slice(), lent_controller_store.slice());
+        let mut record = world.record;
+        let want = boundary::drop_host_data(&mut record, &world.host_store, &world.controller_store);
+        let parts: [(&str, &Lent, &[u8]); 3] = [
+            ("record", &lent_record, &record),
+            ("host store", &lent_host_store, &world.host_store),
+            ("controller store", &lent_controller_store, &world.controller_store),
+        ];
+        verify((got.into(), want.into()), &parts, "drop", || describe_world(world))?;
+        world.record = record;
+        self.seen.note(Function::Drop, want);
         Ok(want)
     }
 }

@@ -1,5 +1,5 @@
-//! Whole runs: a collection against a drive on which captures, clearings by other hosts, creates by other hosts and refused commands
-//! happen in between. Every call goes to the pair; what document 01 claims of a run is checked besides.
+//! Whole runs: a collection against a drive on which captures, drops, clearings by other hosts, creates by other hosts and refused commands
+//! happen in between. Every call goes to the pair; what documents 01 and 02 claim of a run is checked besides.
 
 use crate::boundary::{get_u32, get_u64, Setup, ENDED, NEXT_BYTES, REFUSED, SEND, STATE_BYTES};
 use crate::generate::{self, asked_bytes, at};
@@ -26,12 +26,12 @@ struct Run {
     copy: Vec<u8>,
     /// nothing but the drive completes commands, and it is lent what it needs
     honest: bool,
-    /// percent of the gaps between own commands in which something happens
-    busy: u32,
     sent: u64,
     /// captures of the run's page since its first command
     captures: u64,
-    /// of them, those since the last check
+    /// drops of the run's page since then
+    drops: u64,
+    /// of the captures, those since the last check
     captures_since_check: u64,
     /// the wanted area when the closing header was last read
     area_at_check: Vec<u8>,
@@ -40,30 +40,52 @@ struct Run {
 }
 
 pub fn runs(pair: &mut Pair, random: &mut Random) -> Same<()> {
-    let mut run = begin(pair, random)?;
+    let (world, setup) = drive_and_setup(random);
+    let honest = random.chance(75);
+    let busy = random.pick(&[0, 5, 20, 50, 90]);
+    let mut run = begin(pair, random, world, setup, honest)?;
     while run.next[0] == SEND {
-        if run.sent > 20_000 {
-            return Err(Difference("a run does not end".to_string()));
-        }
         run.one_command(pair, random)?;
-        if run.next[0] == SEND && random.chance(run.busy) {
+        if run.next[0] == SEND && random.chance(busy) {
             run.happenings(pair, random)?;
         }
     }
-    run.check_ending()?;
-    let next = pair.step(&mut run.state, 1, &[], &mut run.copy)?;
-    claim(next[0] == REFUSED && next[1] == ALREADY_ENDED, "a step after the ending is 14")
+    run.finish(pair)
+}
+
+/// Runs on an honest drive in which at most k captures and drops happen, and that have more than k attempts.
+pub fn runs_of_k(pair: &mut Pair, random: &mut Random) -> Same<()> {
+    let (world, plan) = drive_and_setup(random);
+    let k = random.pick(&[0, 1, 1, 2, 2, 3, 5, 9]);
+    let attempts = k + 1 + random.pick(&[0, 0, 1, 40]);
+    let busy = random.pick(&[20, 50, 100]);
+    let mut run = begin(pair, random, world, Setup { attempts, ..plan }, true)?;
+    let mut happened = 0;
+    while run.next[0] == SEND {
+        run.one_command(pair, random)?;
+        while run.next[0] == SEND && happened < k && random.chance(busy) {
+            run.capture_or_drop(pair, random)?;
+            happened += 1;
+        }
+    }
+    let answer = run.next[1];
+    claim(
+        [SUCCESS, NO_ROOM, WITHDRAWN, NOTHING].contains(&answer),
+        "with more than k attempts a run ends with 0, 8, 10 or 11",
+    )?;
+    claim(run.captures + run.drops <= k as u64, "no more than k captures and drops were counted")?;
+    run.finish(pair)
 }
 
 fn claim(holds: bool, what: &str) -> Same<()> {
     if holds {
         return Ok(());
     }
-    Err(Difference(format!("both agree, but the run breaks a claim of document 01: {what}")))
+    Err(Difference(format!("both agree, but the run breaks a claim of documents 01 and 02: {what}")))
 }
 
-/// A random drive, and a collection from it whose setup is taken.
-fn begin(pair: &mut Pair, random: &mut Random) -> Same<Run> {
+/// A random drive, and the setup of a collection from it.
+fn drive_and_setup(random: &mut Random) -> (World, Setup) {
     let plan = small_setup(random, 0);
     let mut world = generate::world(random, plan.caps);
     let spare = random.up_to(6) as usize * BLOCK;
@@ -77,12 +99,14 @@ fn begin(pair: &mut Pair, random: &mut Random) -> Same<Run> {
     let attempts = random.pick(&[1, 2, 2, 3, 4, 8, 256]);
     // A large area goes in large chunks, so that no run takes hundreds of commands.
     let chunk = if all > 40 { random.pick(&[100, 513, 8_192]) } else { random.pick(&[1, 1, 2, 3, 4, 7, 8_192]) };
-    let setup = Setup { room: blocks as u64 * 512, attempts, chunk, ..plan };
+    (world, Setup { room: blocks as u64 * 512, attempts, chunk, ..plan })
+}
+
+/// Begins a collection whose setup is taken.
+fn begin(pair: &mut Pair, random: &mut Random, world: World, setup: Setup, honest: bool) -> Same<Run> {
     let (state, next) = pair.setup(setup)?;
     claim(next[0] == SEND, "a good setup gives a command")?;
     let copy = random.bytes(setup.room as usize);
-    let honest = random.chance(75);
-    let busy = random.pick(&[0, 5, 20, 50, 90]);
     let area_at_check = Vec::new();
     Ok(Run {
         world,
@@ -91,13 +115,19 @@ fn begin(pair: &mut Pair, random: &mut Random) -> Same<Run> {
         next,
         copy,
         honest,
-        busy,
         sent: 0,
         captures: 0,
+        drops: 0,
         captures_since_check: 0,
         area_at_check,
         chunks: 0,
     })
+}
+
+/// The wanted area as the drive has it.
+fn wanted_area(world: &World, setup: Setup) -> Vec<u8> {
+    let store = if setup.page == HOST_PAGE { &world.host_store } else { &world.controller_store };
+    store[..area_last(world, setup) as usize * BLOCK].to_vec()
 }
 
 /// The last block of the wanted area as the drive has it.
@@ -117,6 +147,9 @@ impl Run {
 
     /// Sends the awaited command to the drive and takes its completion.
     fn one_command(&mut self, pair: &mut Pair, random: &mut Random) -> Same<()> {
+        if self.sent > 20_000 {
+            return Err(Difference("a run does not end".to_string()));
+        }
         let words = words_of(&self.next);
         let asked = asked_bytes(self.setup.caps, words) as usize;
         let short = !self.honest && random.chance(3);
@@ -163,7 +196,7 @@ impl Run {
         }
         if phase != CHUNK && phase != ACKNOWLEDGEMENT {
             let last = area_last(&self.world, self.setup);
-            self.area_at_check = self.store()[..last as usize * BLOCK].to_vec();
+            self.area_at_check = wanted_area(&self.world, self.setup);
             self.captures_since_check = 0;
             self.chunks = self.chunks.max(last.div_ceil(self.setup.chunk) as u64);
         }
@@ -191,18 +224,42 @@ impl Run {
         let small = self.store().len() < 8 * BLOCK;
         let times = if small && random.chance(2) { random.pick(&[255, 256]) } else { random.pick(&[1, 1, 1, 2, 3]) };
         for _ in 0..times {
-            let captured = match random.up_to(9) {
+            let captured = match random.up_to(11) {
                 _ if times > 3 => self.own_page_capture(pair, random)?,
                 0..=3 => self.own_page_capture(pair, random)?,
                 4 => self.controller_capture(pair, random)?,
                 5 => self.foreign_create(pair, random)?,
                 6 => self.foreign_clearing(pair, random)?,
+                7 | 8 => self.drop_host_data(pair)?,
                 _ => self.foreign_command(pair, random)?,
             };
-            self.captures += captured as u64;
-            self.captures_since_check += captured as u64;
+            self.book_capture(captured);
         }
         Ok(())
+    }
+
+    /// One of what k counts, and on 08h now and then another host's clearing before it.
+    fn capture_or_drop(&mut self, pair: &mut Pair, random: &mut Random) -> Same<()> {
+        if self.setup.page == CONTROLLER_PAGE && random.chance(10) {
+            self.foreign_clearing(pair, random)?;
+        }
+        let captured =
+            if random.chance(50) { self.drop_host_data(pair)? } else { self.own_page_capture(pair, random)? };
+        self.book_capture(captured);
+        Ok(())
+    }
+
+    fn book_capture(&mut self, captured: bool) {
+        self.captures += captured as u64;
+        self.captures_since_check += captured as u64;
+    }
+
+    /// A Firmware Commit or power on. It is no capture, so the books have it here; of page 08h it changes nothing.
+    fn drop_host_data(&mut self, pair: &mut Pair) -> Same<bool> {
+        let answer = pair.drop_host_data(&mut self.world)?;
+        claim(answer == SUCCESS, "a drive that agrees with its stores takes a drop")?;
+        self.drops += (self.setup.page == HOST_PAGE) as u64;
+        Ok(false)
     }
 
     fn own_page_capture(&mut self, pair: &mut Pair, random: &mut Random) -> Same<bool> {
@@ -250,6 +307,13 @@ impl Run {
         Ok(answer == SUCCESS && creates && self.setup.page == HOST_PAGE)
     }
 
+    /// What is claimed of an ended run, and that it stays ended.
+    fn finish(&mut self, pair: &mut Pair) -> Same<()> {
+        self.check_ending()?;
+        let next = pair.step(&mut self.state, 1, &[], &mut self.copy)?;
+        claim(next[0] == REFUSED && next[1] == ALREADY_ENDED, "a step after the ending is 14")
+    }
+
     /// What document 01 claims of every ending, and of those of an honest run.
     fn check_ending(&self) -> Same<()> {
         let (answer, newer, count) = (self.next[1], self.next[2], get_u64(&self.next, 24));
@@ -268,12 +332,13 @@ impl Run {
 
     fn check_honest_ending(&self, answer: u8, newer: bool, count: u64) -> Same<()> {
         let controller_page = self.setup.page == CONTROLLER_PAGE;
-        let bound = 1 + (self.captures + 1) * (self.chunks + 1) + controller_page as u64;
+        let k = self.captures + self.drops;
+        let bound = 1 + (k + 1) * (self.chunks + 1) + controller_page as u64;
         claim(count <= bound, "a run ends within 1 + (k + 1)(C + 1) commands, one more on 08h")?;
         if self.captures > 255 {
             return Ok(());
         }
-        let may_be_used_up = self.captures >= self.setup.attempts as u64;
+        let may_be_used_up = k >= self.setup.attempts as u64;
         let allowed = match answer {
             SUCCESS | NO_ROOM => true,
             ATTEMPTS_USED_UP => may_be_used_up,
@@ -282,7 +347,7 @@ impl Run {
         };
         claim(
             allowed,
-            "an honest drive's run ends with 0, 8, 10 or 11, and with 9 only if captures use up the attempts",
+            "an honest drive's run ends with 0, 8, 10 or 11, and with 9 only if captures and drops use up the attempts",
         )?;
         if answer == SUCCESS {
             let area = self.copy.get(..self.area_at_check.len());
@@ -314,6 +379,8 @@ enum Event {
     Create(LastBlocks),
     /// another host acknowledges
     Clear,
+    /// a Firmware Commit or power on
+    Drop,
 }
 
 /// A run of one capture plan, as its commands are expected: H first header, cN chunk at block N, h closing header, A acknowledgement, and
@@ -333,8 +400,8 @@ struct Script {
     newer: bool,
 }
 
-/// Corner cases in which captures, clearings and the end of a page meet.
-const SCRIPTS: [Script; 17] = [
+/// Corner cases in which captures, clearings, drops and the end of a page meet.
+const SCRIPTS: [Script; 34] = [
     script(7, [0, 0, 3, 0], 2, 4, &[], "H c1 c3 h", 0, false),
     script(7, [0, 0, 0, 0], 2, 4, &[], "H h", 0, false),
     Script { area: 1, ..script(8, [0, 0, 3, 0], 2, 4, &[], "H h A", 0, false) },
@@ -397,6 +464,62 @@ const SCRIPTS: [Script; 17] = [
             false,
         )
     },
+    // A drop before, between and after the chunks: the page has ended, so the chunk at block 1 is zeros and a later one is refused. No
+    // copy of what was dropped stands.
+    script(7, [2, 2, 2, 0], 1, 4, &[(1, Event::Drop)], "H c1 c2! h h", 0, false),
+    script(7, [2, 2, 2, 0], 2, 4, &[(1, Event::Drop)], "H c1 h h", 0, false),
+    script(7, [2, 2, 2, 0], 1, 4, &[(2, Event::Drop)], "H c1 c2! h h", 0, false),
+    script(7, [2, 2, 2, 0], 1, 4, &[(3, Event::Drop)], "H c1 c2 h h", 0, false),
+    // Once the page is empty, further drops change nothing, neither in the same attempt nor in the next.
+    script(7, [2, 2, 2, 0], 2, 4, &[(1, Event::Drop), (2, Event::Drop), (3, Event::Drop)], "H c1 h h", 0, false),
+    // An attempt is used up by a drop too.
+    Script { attempts: 1, ..script(7, [2, 2, 2, 0], 1, 4, &[(1, Event::Drop)], "H c1 c2! h", 9, false) },
+    Script { attempts: 1, ..script(7, [2, 2, 2, 0], 2, 4, &[(2, Event::Drop)], "H c1 h", 9, false) },
+    Script { attempts: 2, ..script(7, [2, 2, 2, 0], 2, 4, &[(2, Event::Drop)], "H c1 h h", 0, false) },
+    // No block is wanted before or after the drop, and still other areas' last blocks tell of it.
+    Script { area: 1, ..script(7, [0, 1, 3, 0], 2, 4, &[(1, Event::Drop)], "H h h", 0, false) },
+    Script { area: 2, ..script(7, [0, 0, 3, 0], 2, 4, &[(1, Event::Drop)], "H h h", 0, false) },
+    // On a page that is empty already a drop changes the reason alone, which is not compared.
+    script(7, [0, 0, 0, 0], 2, 4, &[(1, Event::Drop)], "H h", 0, false),
+    // A capture of the same areas after the drop: the generation tells, also where it goes from 255 to 0.
+    Script {
+        generation: 255,
+        ..script(
+            7,
+            [0, 0, 2, 0],
+            1,
+            4,
+            &[(1, Event::Drop), (1, Event::Create([0, 0, 2, 2]))],
+            "H c1 c2 h c1 c2 h",
+            0,
+            false,
+        )
+    },
+    script(
+        7,
+        [0, 0, 2, 0],
+        1,
+        4,
+        &[(2, Event::Create([0, 0, 2, 2])), (5, Event::Drop)],
+        "H c1 c2 h c1 c2! h h",
+        0,
+        false,
+    ),
+    // A capture between two drops, which the room would not have held.
+    script(
+        7,
+        [0, 0, 2, 0],
+        2,
+        4,
+        &[(1, Event::Drop), (1, Event::Create([0, 0, 9, 9])), (1, Event::Drop)],
+        "H c1 h h",
+        0,
+        false,
+    ),
+    script(7, [0, 0, 2, 0], 2, 4, &[(1, Event::Drop), (2, Event::Create([0, 0, 9, 9]))], "H c1 h", 8, false),
+    // Page 08h knows nothing of drops.
+    script(8, [0, 0, 2, 0], 1, 4, &[(1, Event::Drop), (2, Event::Drop), (4, Event::Drop)], "H c1 c2 h A", 0, false),
+    script(8, [0, 0, 1, 0], 1, 4, &[(1, Event::Drop), (3, Event::Capture([0, 0, 2, 2]))], "H c1 h A", 0, true),
 ];
 
 #[allow(clippy::too_many_arguments)]
@@ -428,15 +551,21 @@ fn play(pair: &mut Pair, random: &mut Random, script: &Script) -> Same<()> {
     generate::put_last(&mut record, if host { at::HOST_LAST } else { at::CONTROLLER_LAST }, script.last);
     record[if host { at::HOST_GENERATION } else { at::CONTROLLER_GENERATION }] = script.generation;
     record[at::AVAILABLE] = (!host && script.last[2] > 0) as u8;
+    random.fill(&mut record[at::REASONS..]);
     let mut world = World { record, host_store: random.bytes(9 * BLOCK), controller_store: random.bytes(9 * BLOCK) };
     let room = script.room as u64 * 512;
     let Script { page, area, chunk, attempts, .. } = *script;
-    let (mut state, mut next) = pair.setup(Setup { page, create: 0, area, caps, chunk, attempts, room })?;
+    let setup = Setup { page, create: 0, area, caps, chunk, attempts, room };
+    let (mut state, mut next) = pair.setup(setup)?;
     let mut copy = random.bytes(room as usize);
     let mut told = String::new();
     let mut sent = 0;
+    let mut area_at_check = Vec::new();
     while next[0] == SEND && sent < 100 {
         sent += 1;
+        if ![CHUNK, ACKNOWLEDGEMENT].contains(&state[0]) {
+            area_at_check = wanted_area(&world, setup);
+        }
         let words = words_of(&next);
         let mut buffer = random.bytes(asked_bytes(caps, words) as usize);
         let nothing = offer_of(random, [0; 4]);
@@ -451,10 +580,15 @@ fn play(pair: &mut Pair, random: &mut Random, script: &Script) -> Same<()> {
     }
     let got = (told.trim_end(), next[1], next[2] == 1, get_u64(&next, 24) as usize);
     let due = (script.commands, script.answer, script.newer, script.commands.split(' ').count());
-    if got == due {
-        return Ok(());
+    if got != due {
+        return Err(Difference(format!("scripted run: both gave {got:?}, but due is {due:?}")));
     }
-    Err(Difference(format!("scripted run: both gave {got:?}, but due is {due:?}")))
+    let mut copy_due = if script.answer == SUCCESS { area_at_check } else { Vec::new() };
+    copy_due.resize(room as usize, 0);
+    claim(
+        copy == copy_due,
+        "the copy of a scripted run is the wanted area at the last check and zeros after it, else zeros",
+    )
 }
 
 fn name_of(state: &[u8; STATE_BYTES]) -> String {
@@ -470,6 +604,7 @@ fn name_of(state: &[u8; STATE_BYTES]) -> String {
 fn happen(pair: &mut Pair, random: &mut Random, world: &mut World, event: &Event) -> Same<()> {
     let mut buffer = vec![0; BLOCK];
     let answer = match event {
+        Event::Drop => pair.drop_host_data(world)?,
         Event::Capture(last) => pair.capture(world, &offer_of(random, *last))?,
         Event::Create(last) => pair.command(world, &offer_of(random, *last), [0x007F_8107, 0, 0, 0, 0], &mut buffer)?.0,
         Event::Clear => pair.command(world, &offer_of(random, [0; 4]), [0x007F_0008, 0, 0, 0, 0], &mut buffer)?.0,

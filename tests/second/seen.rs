@@ -11,10 +11,14 @@ pub enum Function {
     Step,
     Command,
     Capture,
+    Drop,
 }
 
-/// Each function with the answers that it can give: document 01's table, and for the last two of `bumbazeel.h` their own numbers.
-const LISTED: [(&str, &[u8]); 9] = [
+const FUNCTIONS: usize = 10;
+
+/// Each function with the answers that it can give: document 01's table and document 02's additions to it, and for the last two of
+/// `bumbazeel.h` their own numbers.
+const LISTED: [(&str, &[u8]); FUNCTIONS] = [
     ("class", &[0, 1, 2, 3]),
     ("status", &[0, 1, 2, 3]),
     ("check", &[0, 7]),
@@ -24,19 +28,20 @@ const LISTED: [(&str, &[u8]); 9] = [
     ("step", &[0, 7, 8, 9, 10, 11, 12, 13, 14, 15]),
     ("command", &[0, 1, 2, 3, 4, 5]),
     ("capture", &[0, 4, 5]),
+    ("drop", &[0, 4]),
 ];
 
 pub struct Seen {
-    answers: [[u64; 16]; 9],
+    answers: [[u64; 16]; FUNCTIONS],
     /// a setup or a step that gave a command
-    sent: [u64; 9],
+    sent: [u64; FUNCTIONS],
     /// endings that acknowledged a newer capture unread
     pub newer: u64,
 }
 
 impl Seen {
     pub fn new() -> Seen {
-        Seen { answers: [[0; 16]; 9], sent: [0; 9], newer: 0 }
+        Seen { answers: [[0; 16]; FUNCTIONS], sent: [0; FUNCTIONS], newer: 0 }
     }
 
     pub fn note(&mut self, function: Function, answer: u8) {

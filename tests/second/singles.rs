@@ -1,10 +1,10 @@
 //! Single calls on random inputs.
 
 use crate::boundary::{Setup, REFUSED};
-use crate::generate::{self, DA4S, ETDAS, EXTENDED, TELEMETRY};
-use crate::pair::{Difference, Pair, Same};
+use crate::generate::{self, at, DA4S, ETDAS, EXTENDED, TELEMETRY};
+use crate::pair::{Difference, Pair, Same, World};
 use crate::random::Random;
-use crate::rules::{ALREADY_ENDED, CONTROLLER_PAGE, HOST_PAGE};
+use crate::rules::{ALREADY_ENDED, BLOCK, CONTROLLER_PAGE, DISAGREE, HOST_PAGE, SUCCESS};
 
 /// All identifiers, and the counts that document 01 gives.
 pub fn classes(pair: &mut Pair, _: &mut Random) -> Same<()> {
@@ -203,7 +203,62 @@ pub fn captures(pair: &mut Pair, random: &mut Random) -> Same<()> {
     Ok(())
 }
 
-/// A record that disagrees or is damaged: 4 from commands and captures alike, and nothing else is changed.
+/// Some drops in a row, with captures and commands between them, on a drive that mostly agrees; then one with other bytes in its record.
+pub fn drops(pair: &mut Pair, random: &mut Random) -> Same<()> {
+    let caps = generate::caps(random);
+    let mut world = generate::world(random, caps);
+    if random.chance(15) {
+        generate::damage_world(random, &mut world);
+    }
+    for _ in 0..random.pick(&[1, 2, 2, 4]) {
+        pair.drop_host_data(&mut world)?;
+        between_drops(pair, random, &mut world)?;
+    }
+    generate::scramble_record(random, &mut world);
+    pair.drop_host_data(&mut world)?;
+    between_drops(pair, random, &mut world)
+}
+
+/// Nothing, a capture, a command, or both.
+fn between_drops(pair: &mut Pair, random: &mut Random, world: &mut World) -> Same<()> {
+    let offer = generate::any_offer(random, world.host_store.len().min(world.controller_store.len()));
+    if random.chance(40) {
+        pair.capture(world, &offer)?;
+    }
+    if random.chance(70) {
+        let words = generate::words(random, world, &offer);
+        let mut buffer = generate::buffer(random, world.record[at::CAPS], words);
+        pair.command(world, &offer, words, &mut buffer)?;
+    }
+    Ok(())
+}
+
+/// Every length of either store up to some bytes more than its last blocks need: a drop is 4 as long as the store is too short.
+pub fn store_lengths(pair: &mut Pair, random: &mut Random) -> Same<()> {
+    const BLOCKS: u32 = 2;
+    let needed = BLOCKS as usize * BLOCK;
+    let mut world = generate::world(random, EXTENDED | TELEMETRY);
+    generate::put_last(&mut world.record, at::HOST_LAST, [0, 1, BLOCKS, 0]);
+    generate::put_last(&mut world.record, at::CONTROLLER_LAST, [1, 1, BLOCKS, 0]);
+    world.record[at::AVAILABLE] = 1;
+    for length in 0..=needed + 40 {
+        for (host_bytes, controller_bytes) in [(length, needed), (needed, length)] {
+            let host_store = random.bytes(host_bytes);
+            let controller_store = random.bytes(controller_bytes);
+            let mut lent = World { record: world.record, host_store, controller_store };
+            let given = pair.drop_host_data(&mut lent)?;
+            let due = if length < needed { DISAGREE } else { SUCCESS };
+            if given != due {
+                return Err(Difference(format!(
+                    "a drop with stores of {host_bytes} and {controller_bytes} gives {given}"
+                )));
+            }
+        }
+    }
+    Ok(())
+}
+
+/// A record that disagrees or is damaged: 4 from commands, captures and drops alike, and nothing else is changed.
 pub fn damaged(pair: &mut Pair, random: &mut Random) -> Same<()> {
     let caps = generate::caps(random);
     let mut world = generate::world(random, caps);
@@ -212,5 +267,6 @@ pub fn damaged(pair: &mut Pair, random: &mut Random) -> Same<()> {
     let words = generate::words(random, &world, &offer);
     let mut buffer = generate::buffer(random, caps, words);
     pair.command(&mut world, &offer, words, &mut buffer)?;
-    pair.capture(&mut world, &offer).map(|_| ())
+    pair.capture(&mut world, &offer)?;
+    pair.drop_host_data(&mut world).map(|_| ())
 }

@@ -1,11 +1,11 @@
 //! Steps on random states, sane, forged and damaged, with random completions.
 
 use crate::boundary::{get_u32, get_u64, put_u32, put_u64, STATE_BYTES};
-use crate::generate::{self, DA4S};
+use crate::generate::{self, last_of, DA4S};
 use crate::orders::{header_state, small_setup};
 use crate::pair::{Pair, Same};
 use crate::random::Random;
-use crate::rules::{BLOCK, HOST_PAGE};
+use crate::rules::{LastBlocks, BLOCK, HOST_PAGE};
 
 const CHUNK: u8 = 1;
 
@@ -80,6 +80,16 @@ fn damage(random: &mut Random, state: &mut [u8; STATE_BYTES]) {
     }
 }
 
+/// The last blocks of a state's attempt, now and then with one of them changed. A forged state may have any, and no header has so many.
+fn near_last(random: &mut Random, state: &[u8; STATE_BYTES]) -> LastBlocks {
+    let mut last = last_of(state, 40).map(|blocks| blocks.min(1_100_000));
+    if random.chance(25) {
+        let index = random.up_to(3) as usize;
+        last[index] = random.pick(&[0, last[index] + 1, last[index].saturating_sub(1)]);
+    }
+    last
+}
+
 /// Data for a success: a header that may match, may open an attempt, or is bad; or a chunk.
 fn data(random: &mut Random, state: &[u8; STATE_BYTES]) -> Vec<u8> {
     let (page, da4s) = (state[1], state[4] & DA4S != 0);
@@ -92,6 +102,9 @@ fn data(random: &mut Random, state: &[u8; STATE_BYTES]) -> Vec<u8> {
     let blocks = (get_u64(state, 24) / 512).min(1_000) as u32;
     let most = if random.chance(70) { blocks / 2 } else { blocks + 2 };
     let mut last = generate::last_blocks(random, da4s, most);
+    if random.chance(60) {
+        last = near_last(random, state);
+    }
     if random.chance(10) {
         generate::break_rule(random, &mut last, da4s);
     }
