@@ -1,22 +1,20 @@
 -- Document 01, "Host: header check and collection", on the state: setup, what a step refuses, what it makes of the state, and what happens
 -- to the copy. What is awaited is in the crate plans, what a completion calls for in judgement. h is what is seen of the data.
 -- Assumes nothing.
-use Prim.Native.Nat.{ℕ, _+_, _*_, _≤_}
-use mathlib.Core.List.{List, [], _∷_}
-use mathlib.Core.Bool.{Bool, true, not, _&&_}
+use Prim.Native.Nat.{ℕ, _+_, _≤_}
+use mathlib.Core.List.{List}
+use mathlib.Core.Bool.{Bool}
 use lib.ListN.{length}
-use lib.Dec.{leb, eqb}
-use Rattle.choices.specs.Choice.{pick, firstThat}
-use Rattle.choices.specs.Tests.{holds}
+use lib.Dec.{eqb}
+use Rattle.choices.specs.Choice.{pick}
 use Rattle.copies.specs.Parts.{zeros}
-use Rattle.answers.specs.Answers.{success, badSetup, alreadyEnded, doesNotFit}
-use Rattle.pages.specs.Pages.{most4}
+use Rattle.answers.specs.Answers.{success}
 use Rattle.words.specs.declared.Words.{Words}
 use Rattle.plans.specs.declared.Plan.{Plan}
 use Rattle.plans.specs.declared.Phase.{Phase}
 use Rattle.plans.specs.declared.Phase.the-variants.{First, Ended}
 use Rattle.plans.specs.Phases.{endedBy}
-use Rattle.plans.specs.Plans.{mostAttempts, setupAnswer, wordsBy, expectedBy, withinBy}
+use Rattle.plans.specs.Plans.{mostAttempts, setupAnswer, wordsBy, expectedBy}
 use Rattle.completions.specs.declared.Seen.{Seen}
 use Rattle.completions.specs.declared.Touch.{Touch}
 use Rattle.completions.specs.declared.Touch.the-variants.{Keep}

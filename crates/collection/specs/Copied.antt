@@ -7,7 +7,7 @@ use mathlib.Core.List.{List, _++_}
 use mathlib.Core.Bool.{Bool, true, false}
 use native.Mathlib.Omega.{arith}
 use lib.ListN.{length, take}
-use Rattle.choices.specs.Tests.{same-or-not, clash}
+use Rattle.choices.specs.Tests.{same-or-not}
 use Rattle.copies.specs.Parts.{zeros, put, put-fits}
 use Rattle.answers.specs.Answers.{success}
 use Rattle.pages.specs.Pages.{block}
@@ -117,8 +117,8 @@ module _ (s : Collection) (d copy : List ℕ) (e : Finish) (w : areaBytes (s .pl
     again = λ f l r. goes-on h (Open true) _ refl;
     more = λ at f y. goes-on h (More at) _ refl;
     skip = λ at f n. goes-on h Skip _ refl;
-    acknowledge = λ f p. goes-on h Acknowledge _ refl;
-    stand = λ f n. ended h (Success false) false;
+    acknowledge = λ f m p. goes-on h Acknowledge _ refl;
+    stand = λ f m n. ended h (Success false) false;
     done = λ f y. ended h (Success (newerThan (s .attempt) h)) false;
   }
 
@@ -152,8 +152,8 @@ sending-copy s ok d copy x q other =
       again = λ f l a p. refl;
       more = λ at f y. absurd (other at f y);
       skip = λ at f n p. refl;
-      acknowledge = λ f w p. refl;
-      stand = λ f n p. not-sent (sym p);
+      acknowledge = λ f m w p. refl;
+      stand = λ f m n p. not-sent (sym p);
       done = λ f y p. not-sent (sym p);
     }) (rw (taken-step s ok d (length copy) r) at q))
     (λ r. refused-copy s ok d copy r)

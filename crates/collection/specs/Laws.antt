@@ -116,8 +116,8 @@ pub record Moves (P : Move → Type 0) (s : Collection) (ok : Bool) (h : Seen) :
   pub again : closingBy (s .phase) ≡ true → s .attempt .number < s .plan .attempts → fitsRoom (s .plan) (h .last) ≡ true → P (Open true)
   pub more : (at : ℕ) → s .phase ≡ Chunk at → ok ≡ true → P (More at)
   pub skip : (at : ℕ) → s .phase ≡ Chunk at → ok ≡ false → P Skip
-  pub acknowledge : s .phase ≡ Close false → s .plan .page ≡ controllerPage → P Acknowledge
-  pub stand : s .phase ≡ Close false → eqb (s .plan .page) controllerPage ≡ false → P (End (Success false) false)
+  pub acknowledge : s .phase ≡ Close false → matches (s .attempt) h ≡ true → s .plan .page ≡ controllerPage → P Acknowledge
+  pub stand : s .phase ≡ Close false → matches (s .attempt) h ≡ true → eqb (s .plan .page) controllerPage ≡ false → P (End (Success false) false)
   pub done : s .phase ≡ Ack → ok ≡ true → P (End (Success (newerThan (s .attempt) h)) false)
 
 -- what holds of all of them holds of the one that it calls for
@@ -130,9 +130,9 @@ module _ (P : Move → Type 0) (s : Collection) (ok : Bool) (h : Seen) (m : Move
       (λ b. pick-cases P (matches (s .attempt) h && eqb (s .plan .page) controllerPage)
       (λ w. let q = and-left (matches (s .attempt) h) (eqb (s .plan .page) controllerPage) w in
       let a : after ≡ false = rw q at b in
-      m .acknowledge (e ∙ ap Close a) (eqb-true _ _ (and-right (matches (s .attempt) h) (eqb (s .plan .page) controllerPage) w)))
+      m .acknowledge (e ∙ ap Close a) q (eqb-true _ _ (and-right (matches (s .attempt) h) (eqb (s .plan .page) controllerPage) w)))
       (λ w. pick-cases P (matches (s .attempt) h)
-      (λ q. let a : after ≡ false = rw q at b in m .stand (e ∙ ap Close a) (rw q at w))
+      (λ q. let a : after ≡ false = rw q at b in m .stand (e ∙ ap Close a) q (rw q at w))
       (λ q. pick-cases P (leb (s .plan .attempts) (s .attempt .number)) (λ u. m .fail UsedUp refl)
       (λ u. let l = leb-false (s .plan .attempts) (s .attempt .number) u in
       pick-cases P (not (fitsRoom (s .plan) (h .last))) (λ r. m .large f l) (λ r. m .again f l (not-false _ r))))))

@@ -159,8 +159,8 @@ asked s ok e h y c = move-cases (Asked s ok e h) s ok h (record {
   again = λ f l r q. not-sent q;
   more = λ at f y q. not-sent q;
   skip = λ at f n q. not-sent q;
-  acknowledge = λ f p q. not-sent q;
-  stand = λ f n q. clash (eq-eqb (s .plan .page) controllerPage c) n;
+  acknowledge = λ f m p q. not-sent q;
+  stand = λ f m n q. clash (eq-eqb (s .plan .page) controllerPage c) n;
   done = λ f k q. (f, k);
 })
 

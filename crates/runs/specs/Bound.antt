@@ -210,8 +210,8 @@ module _ (most : ℕ) (s : Collection) (h : Seen) (r : Reached most s) where
     again = λ f l w. again f l w;
     more = λ at f y. more at f;
     skip = λ at f n. skip at f;
-    acknowledge = λ f p. acknowledge f p;
-    stand = λ f n. over (Success false);
+    acknowledge = λ f m p. acknowledge f p;
+    stand = λ f m n. over (Success false);
     done = λ f y. over _;
   })
 

@@ -340,8 +340,8 @@ module _ (p : Plan) (first : List ℕ) (h : Held) (k : Reply) (w : Seen) (i : Ho
     again = λ f l e. opens true (rw (closing-is (h .state .phase) f .is, at-no-ack 1 (areaLast (h .state .plan) (w .last))));
     more = λ at f y. more at f y;
     skip = λ at f n. skip at f n;
-    acknowledge = λ f e. acknowledge f;
-    stand = λ f n. stands (Success false) refl (rw f) (rw f at (i .kept .sized));
+    acknowledge = λ f m e. acknowledge f;
+    stand = λ f m n. stands (Success false) refl (rw f) (rw f at (i .kept .sized));
     done = λ f y. stands (Success (newerThan (h .state .attempt) w)) refl (rw f) (rw f at (i .kept .sized));
   })
 

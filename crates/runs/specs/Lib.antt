@@ -6,3 +6,4 @@ pub mod Acknowledged
 pub mod Held
 pub mod Stale
 pub mod Listing
+pub mod Matched

@@ -114,8 +114,8 @@ gave s ok h w = move-cases (Gave s h w) s ok h (record {
     ack = λ a. clash a (at-no-ack (at + s .plan .chunk) (areaLast (s .plan) (s .attempt .last)));
   };
   skip = λ at f n q. record { awaits = same-words q; later = refl; ack = λ a. clash {t = true} refl (sym a) };
-  acknowledge = λ f p q. record { awaits = same-words q; later = refl; ack = λ a. p };
-  stand = λ f n q. not-sent (sym q);
+  acknowledge = λ f m p q. record { awaits = same-words q; later = refl; ack = λ a. p };
+  stand = λ f m n q. not-sent (sym q);
   done = λ f y q. not-sent (sym q);
 })
 
@@ -174,8 +174,8 @@ silent s ok h e = move-cases (λ (m : Move). Silent (makes s h m)) s ok h (recor
   again = λ f l r. let q = closing-is (s .phase) f in clash e (rw (q .no-ack, q .going));
   more = λ at f y. clash {t = true} refl (sym (rw f at e));
   skip = λ at f n. clash {t = true} refl (sym (rw f at e));
-  acknowledge = λ f p. clash {t = true} refl (sym (rw f at e));
-  stand = λ f n. record { gives = refl; stays = refl };
+  acknowledge = λ f m p. clash {t = true} refl (sym (rw f at e));
+  stand = λ f m n. record { gives = refl; stays = refl };
   done = λ f y. record { gives = refl; stays = refl };
 })
 
