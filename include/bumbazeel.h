@@ -163,8 +163,8 @@ uint8_t bumbazeel_words(uint8_t page, uint8_t create, uint8_t mcda, uint8_t rae,
 uint8_t bumbazeel_setup(uint8_t page, uint8_t create, uint8_t area, uint8_t caps, uint32_t chunk, uint32_t attempts, size_t room,
                         struct bumbazeel_state *state, struct bumbazeel_next *next);
 
-/* Takes the completion of the awaited command: whether it succeeded, and its data (none with a refusal). A closing header stands for the
- * copy if its generation and all four last blocks are those of the header that opened the attempt. Answers next->kind.
+/* Takes the completion of the awaited command: whether it succeeded, and its data (none with a refusal). A closing header matches
+ * if its generation and all four last blocks are those of the header that opened the attempt, and then the copy stands. Answers next->kind.
  * BUMBAZEEL_SEND: the next command is awaited, and a chunk that came was written to its place in the copy. BUMBAZEEL_ENDED: with success
  * the copy holds the wanted area and zeros after it, else zeros alone. BUMBAZEEL_REFUSED: 14, 13 or 15; state and copy are as they
  * were. *next is always written. */

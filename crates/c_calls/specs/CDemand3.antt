@@ -72,7 +72,7 @@ module _ (page create area caps chunk attempts room : ℕ) (copy : List ℕ) (b 
     -- 0: the copy is the wanted area as it stood at the last check, and then zeros; `newer` is 1 just where a capture came after the last check
     succeeds : getD (last .next) 1 0 ≡ success
         → last .copy ≡ areaIn page area (last .checked) ++ zeros (room - block * lastIn page area (last .checked))
-        → getD (last .next) 2 0 ≡ one (ltb 0 (last .counts .since))
+        → getD (last .next) 2 0 ≡ one (ltb 0 (last .counts .captures))
         → CTrueEnding
     -- 8: the wanted area was larger than the copy, which is zeros
     lacks-room : getD (last .next) 1 0 ≡ noRoom → last .copy ≡ zeros room
@@ -177,7 +177,7 @@ module _ (page create area caps chunk attempts room : ℕ) (copy : List ℕ) (b 
       true-ending (succeeded-by n c f) =
           succeeds (answer-is ∙ n)
           (r .copy ∙ c ∙ rw (long-is p set-up (last .checked), area-is p set-up (last .checked) (r .checked-fit)))
-          (newer-is ∙ ap one (f ∙ ap (λ (x : Counters). ltb 0 (x .since)) (sym (r .counts))))
+          (newer-is ∙ ap one (f ∙ ap (λ (x : Counters). ltb 0 (x .captures)) (sym (r .counts))))
       true-ending (room-short n c f) = lacks-room (answer-is ∙ n) (r .copy ∙ c) (omega (arith, last-is p set-up (last .checked), f))
       true-ending (gone n c h z m) = withdraws (answer-is ∙ n) (r .copy ∙ c) h z (omega (arith, all-made, m))
       true-ending (never-there n c h z m) = finds-nothing (answer-is ∙ n) (r .copy ∙ c) h z (omega (arith, all-made, m))

@@ -166,7 +166,7 @@ module _ (p : Plan) where
     made = 0;
     headers = [];
     checked = b;
-    counts = record { since = 0; drops = 0; changes = 0; lentRefusals = 0 };
+    counts = record { captures = 0; drops = 0; changes = 0; lentRefusals = 0 };
   }
 
   -- the whole loop: setup, the first command with what it is lent, and then the turns

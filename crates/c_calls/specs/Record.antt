@@ -1,5 +1,5 @@
--- A record across the C boundary: what fresh, command, capture and drop write keeps what the types say, and so the record that a call's bytes say is the
--- record that the call's definition gave.
+-- A record across the C boundary: what bytes say, and what fresh, command, capture and drop write, is all that the types say, and so the record that a call's
+-- bytes say is the record that the call's definition gave.
 -- Assumes nothing.
 use Prim.Native.Nat.{ℕ, zero, suc, _/_, _≤_, _<_}
 use mathlib.Core.Path.{_≡_, refl, sym, ap}
@@ -18,12 +18,10 @@ use Rattle.answers.specs.Answers.{success}
 use Rattle.pages.specs.declared.Caps.{Caps}
 use Rattle.words.specs.declared.Words.{Words}
 use Rattle.records.specs.declared.Identity.{Identity}
-use Rattle.records.specs.Records.{identityOk, agreesWith, freshOf}
+use Rattle.records.specs.Records.{identityOk, freshOf}
 use Rattle.records.specs.Back.{Typed, fresh-typed}
-use Rattle.verdicts.specs.Verdicts.{captureAnswer}
-use Rattle.verdicts.specs.Accepted.{captures}
-use Rattle.controller.specs.Controller.{World, world, Candidate, Outcome, lentBy, commandOf, captureAnswered, captureOf, dropOf}
-use Rattle.controller.specs.Laws.{asked, command-frame, create-typed, clear-typed, capture-typed, refusal-changes-nothing, capture-refusal-changes-nothing, drop-typed, drop-refusal-changes-nothing}
+use Rattle.controller.specs.Controller.{World, world, Candidate, Outcome, commandOf, captureOf, dropOf}
+use Rattle.controller.specs.Laws.{command-typed, captured-typed, dropped-typed, refusal-changes-nothing, capture-refusal-changes-nothing, drop-refusal-changes-nothing}
 use Rattle.shared_layouts.specs.Layouts.{mostCaps, capsByte, capsOf}
 use Rattle.shared_layouts.specs.Back.{caps-most}
 use Rattle.record_layout.specs.Layout.{recordMarks, recordBytes, recordAt, recordIntact}
@@ -51,30 +49,6 @@ record-typed b l t = record {
   };
 }
 
--- ---- a command, a capture and a drop keep what the types say of a record
-
-module _ (w : World) (candidate : Candidate) where
-  -- whatever a command is lent, the record that it gives is all that its types say
-  pub command-keeps-typed : (words : Words) (buf : List ℕ) → Typed (w .own) → Typed (commandOf w candidate words buf .world .own)
-  command-keeps-typed words buf t =
-      command-frame (λ (v : World). Typed (v .own)) w candidate words buf t
-      (λ a c. create-typed w candidate (asked w words .mcda) (a .agrees) t (a .candidate c))
-      (λ a p r. clear-typed w (a .agrees) t)
-
-  -- and so with a capture
-  pub capture-keeps-typed : Typed (w .own) → Typed (captureOf w candidate .world .own)
-  unfolding captureOf captureAnswered
-  capture-keeps-typed t =
-      pick-cases (λ (o : Outcome). Typed (o .world .own)) (eqb (captureAnswer (w .own) (candidate .last) (lentBy w candidate [])) success)
-      (λ e. let c = captures (w .own) (candidate .last) (lentBy w candidate []) (eqb-true _ _ e) in capture-typed w candidate (c .agrees) t c)
-      (λ e. t)
-
--- and with a drop
-pub drop-keeps-typed : (w : World) → Typed (w .own) → Typed (dropOf w .world .own)
-unfolding dropOf
-drop-keeps-typed w t =
-    pick-cases (λ (o : Outcome). Typed (o .world .own)) (agreesWith (w .own) (length (w .host)) (length (w .controller))) (λ e. drop-typed w e t) (λ e. t)
-
 -- ---- call after call
 
 -- The record that a fresh one's bytes say is the fresh one.
@@ -100,21 +74,21 @@ module _ (r h k : List ℕ) (t : Typed (recordAt r)) where
       → recordAt (commandAt r h k candidate words buf .own) ≡ commandOf w candidate words buf .world .own
   unfolding commandAt
   command-chained candidate words buf p =
-      rw p (after-is (commandOf w candidate words buf) (command-keeps-typed w candidate words buf t)
+      rw p (after-is (commandOf w candidate words buf) (command-typed w candidate words buf t)
       (λ n. sym (ap (λ (x : World). x .own) (refusal-changes-nothing w candidate words buf n .0))))
 
   -- And so with a capture.
   pub capture-chained : (candidate : Candidate) → recordIntact r ≡ true → recordAt (captureAt r h k candidate .own) ≡ captureOf w candidate .world .own
   unfolding captureAt
   capture-chained candidate p =
-      rw p (after-is (captureOf w candidate) (capture-keeps-typed w candidate t)
+      rw p (after-is (captureOf w candidate) (captured-typed w candidate t)
       (λ n. sym (ap (λ (x : World). x .own) (capture-refusal-changes-nothing w candidate n))))
 
   -- And with a drop.
   pub drop-chained : recordIntact r ≡ true → recordAt (dropAt r h k .own) ≡ dropOf w .world .own
   unfolding dropAt
   drop-chained p =
-      rw p (after-is (dropOf w) (drop-keeps-typed w t) (λ n. sym (ap (λ (x : World). x .own) (drop-refusal-changes-nothing w n))))
+      rw p (after-is (dropOf w) (dropped-typed w t) (λ n. sym (ap (λ (x : World). x .own) (drop-refusal-changes-nothing w n))))
 
 -- ---- a fresh record is 300 bytes
 

@@ -135,6 +135,7 @@ captureOf w candidate = captureAnswered w candidate (captureAnswer (w .own) (can
 
 -- ---- a drop of the host's data
 
+-- the world after it
 abbrev pub hostDropped : World → World
 hostDropped w = world (droppedOf (w .own)) (w .host) (w .controller)
 

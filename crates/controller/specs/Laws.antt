@@ -219,19 +219,20 @@ capture-typed w candidate g t h =
     (t .ranged .host-generation)
     (omega arith)
 
-pub command-typed : (w : World) (candidate : Candidate) (words : Words) (buf : List ℕ) → Agrees w → Typed (w .own)
-    → Typed (commandOf w candidate words buf .world .own)
-command-typed w candidate words buf g t =
+-- by every command, whatever it is lent
+pub command-typed : (w : World) (candidate : Candidate) (words : Words) (buf : List ℕ) → Typed (w .own) → Typed (commandOf w candidate words buf .world .own)
+command-typed w candidate words buf t =
     command-frame (λ (v : World). Typed (v .own)) w candidate words buf t
-    (λ a c. create-typed w candidate (asked w words .mcda) g t (a .candidate c))
-    (λ a p r. clear-typed w g t)
+    (λ a c. create-typed w candidate (asked w words .mcda) (a .agrees) t (a .candidate c))
+    (λ a p r. clear-typed w (a .agrees) t)
 
-pub captured-typed : (w : World) (candidate : Candidate) → Agrees w → Typed (w .own) → Typed (captureOf w candidate .world .own)
+-- and by every capture
+pub captured-typed : (w : World) (candidate : Candidate) → Typed (w .own) → Typed (captureOf w candidate .world .own)
 unfolding captureOf captureAnswered
-captured-typed w candidate g t =
-    by-test (eqb (captureAnswer (w .own) (candidate .last) (lentBy w candidate [])) success)
-    (λ e. rw e (capture-typed w candidate g t (captures (w .own) (candidate .last) (lentBy w candidate []) (eqb-true _ _ e))))
-    (λ e. rw e t)
+captured-typed w candidate t =
+    pick-cases (λ (o : Outcome). Typed (o .world .own)) (eqb (captureAnswer (w .own) (candidate .last) (lentBy w candidate [])) success)
+    (λ e. let c = captures (w .own) (candidate .last) (lentBy w candidate []) (eqb-true _ _ e) in capture-typed w candidate (c .agrees) t c)
+    (λ e. t)
 
 -- a refused capture changes nothing
 pub capture-refusal-changes-nothing : (w : World) (candidate : Candidate) → (captureOf w candidate .answer ≡ success → ⊥) → captureOf w candidate .world ≡ w
@@ -294,5 +295,7 @@ drop-typed w g t =
 pub dropped-agrees : (w : World) → Agrees w → Agrees (dropOf w .world)
 dropped-agrees w g = rw (drop-done w g) (drop-agrees w g)
 
-pub dropped-typed : (w : World) → Agrees w → Typed (w .own) → Typed (dropOf w .world .own)
-dropped-typed w g t = rw (drop-done w g) (drop-typed w g t)
+pub dropped-typed : (w : World) → Typed (w .own) → Typed (dropOf w .world .own)
+unfolding dropOf
+dropped-typed w t =
+    pick-cases (λ (o : Outcome). Typed (o .world .own)) (agreesWith (w .own) (length (w .host)) (length (w .controller))) (λ e. drop-typed w e t) (λ e. t)

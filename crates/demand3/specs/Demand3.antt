@@ -60,7 +60,7 @@ module _ (c : Collector) (p : Plan) (copy : List ℕ) (w : World) (first : Loan)
   -- how it may end, v being the controller at the last check, the last header that was judged
   pub data TrueEnding (e : Finish) (v : World) : Type 0 where
     -- 0: the copy is the wanted area of v and then zeros; a newer capture is said to be unread just where one came after the last check
-    succeeded-by : numberOf (e .ending) ≡ success → final .copy ≡ wantedArea p v ++ zeros (p .room - length (wantedArea p v)) → newerOf (e .ending) ≡ ltb 0 (final .counts .since) → TrueEnding e v
+    succeeded-by : numberOf (e .ending) ≡ success → final .copy ≡ wantedArea p v ++ zeros (p .room - length (wantedArea p v)) → newerOf (e .ending) ≡ ltb 0 (final .counts .captures) → TrueEnding e v
     -- 8: the wanted area of v is larger than the copy, which is zeros
     room-short : numberOf (e .ending) ≡ noRoom → final .copy ≡ zeros (p .room) → p .room < block * areaLast p (fieldsFor (p .page) (v .own) .last) → TrueEnding e v
     -- 10: the page is 08h, and its TCDA went to 0 after the first header

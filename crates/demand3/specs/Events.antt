@@ -118,17 +118,17 @@ pub act-good : (p : Plan) (e : Event) (w : World) → Good p w → Good p (actOf
 unfolding actOf
 act-good p (Sent words candidate buf) w g = record {
   agrees = command-agrees w candidate words buf (g .agrees);
-  typed = command-typed w candidate words buf (g .agrees) (g .typed);
+  typed = command-typed w candidate words buf (g .typed);
   caps = act-caps (p .caps) (Sent words candidate buf) w (g .caps);
 }
 act-good p (Taken candidate) w g = record {
   agrees = captured-agrees w candidate (g .agrees);
-  typed = captured-typed w candidate (g .agrees) (g .typed);
+  typed = captured-typed w candidate (g .typed);
   caps = act-caps (p .caps) (Taken candidate) w (g .caps);
 }
 act-good p Dropped w g = record {
   agrees = dropped-agrees w (g .agrees);
-  typed = dropped-typed w (g .agrees) (g .typed);
+  typed = dropped-typed w (g .typed);
   caps = act-caps (p .caps) Dropped w (g .caps);
 }
 

@@ -85,7 +85,7 @@ module _ (D : Source) (p : Plan) (K : Keeps D p) (s : Stand D) (o : Done (D .Sta
       sent = stepped D s o x y .sent;
       headers = s .headers;
       checked = s .checked;
-      counts = record { since = s .counts .since; drops = s .counts .drops; changes = s .counts .changes; lentRefusals = stepped D s o x y .counts .lentRefusals };
+      counts = record { captures = s .counts .captures; drops = s .counts .drops; changes = s .counts .changes; lentRefusals = stepped D s o x y .counts .lentRefusals };
     }
 
     plain-is : (x : Stepped) (y : List ℕ) → plain x y ≡ stepped D s o x y
@@ -110,7 +110,7 @@ module _ (D : Source) (p : Plan) (K : Keeps D p) (s : Stand D) (o : Done (D .Sta
           good = op .good;
           here = op .here;
           live = op .live;
-          gens = op .gens ∙ ap (λ (i : ℕ). (i + s .counts .since) % 256) (sym g);
+          gens = op .gens ∙ ap (λ (i : ℕ). (i + s .counts .captures) % 256) (sym g);
           stays = λ none whole live. op .stays none whole live ∙ sym l;
           begun = omega (arith, op .begun, length-append (s .sent) (given (x .next)));
         }
@@ -178,7 +178,7 @@ module _ (D : Source) (p : Plan) (K : Keeps D p) (s : Stand D) (o : Done (D .Sta
 
   -- ---- the acknowledgement
 
-  pub ack-inv : state .phase ≡ Ack → Had D p K s → Header p o (K .shows (s .source)) → s .counts .since ≤ 255 → Inv D p K (hears ours D s o)
+  pub ack-inv : state .phase ≡ Ack → Had D p K s → Header p o (K .shows (s .source)) → s .counts .captures ≤ 255 → Inv D p K (hears ours D s o)
   unfolding lookOf lookBy expectedOf
   ack-inv f h hdr few =
       let op = h .opened in
@@ -193,6 +193,6 @@ module _ (D : Source) (p : Plan) (K : Keeps D p) (s : Stand D) (o : Done (D .Sta
       left .stood refl ∙ rw (c .plan, c .size, h .filled, l) in
       let low : state .attempt .generation < 256 = rw (op .generation) (K .byte (s .checked) (op .good)) in
       let seen : lookOf state (o .bytes) ≡ K .shows (s .source) = rw (f, c .plan) (hdr .seen) in
-      let said : newer ≡ ltb 0 (s .counts .since) = rw seen (newer-is (K .shows (s .source) .generation) (state .attempt .generation) (s .counts .since) low few (op .gens)) in
+      let said : newer ≡ ltb 0 (s .counts .captures) = rw seen (newer-is (K .shows (s .source) .generation) (state .attempt .generation) (s .counts .captures) low few (op .gens)) in
       ended D p K s o c false (Success newer) _ ex ey (rw f (c .tries))
-      (succeeded (ap Success (said ∙ ap (λ (g : Phase). ltb 0 (pick (judgedBy g) 0 (s .counts .since))) (sym f))) (rw f) (rw f (op .live)))
+      (succeeded (ap Success (said ∙ ap (λ (g : Phase). ltb 0 (pick (judgedBy g) 0 (s .counts .captures))) (sym f))) (rw f) (rw f (op .live)))

@@ -77,13 +77,13 @@ module _ (D : Source) (p : Plan) (K : Keeps D p) (s : Stand D) (o : Done (D .Sta
   most-grows false = omega arith
 
   -- the captures and drops since the last header, after it
-  abbrev pub sinceHeard : ℕ
-  sinceHeard = pick (judgedBy (s .collection .phase)) 0 (s .counts .since)
+  abbrev pub capturesHeard : ℕ
+  capturesHeard = pick (judgedBy (s .collection .phase)) 0 (s .counts .captures)
 
   abbrev pub dropsHeard : ℕ
   dropsHeard = pick (judgedBy (s .collection .phase)) 0 (s .counts .drops)
 
-  common : Common D p K s → step .state .attempt .number + sinceHeard + dropsHeard ≤ s .counts .changes + 1 → Common D p K (hears ours D s o)
+  common : Common D p K s → step .state .attempt .number + capturesHeard + dropsHeard ≤ s .counts .changes + 1 → Common D p K (hears ours D s o)
   unfolding hears mostChunks
   common c t =
       let k : Completion = record { ok = fine o; bytes = dataOf o; copy = length (s .copy) } in
@@ -103,7 +103,7 @@ module _ (D : Source) (p : Plan) (K : Keeps D p) (s : Stand D) (o : Done (D .Sta
 
   -- a step and a copy put in
   pub finish : (x : Stepped) (y : List ℕ) → step ≡ x → copied ≡ y → Common D p K s
-      → x .state .attempt .number + sinceHeard + dropsHeard ≤ s .counts .changes + 1
+      → x .state .attempt .number + capturesHeard + dropsHeard ≤ s .counts .changes + 1
       → At D p K (x .state .phase) (stepped D s o x y)
       → Inv D p K (hears ours D s o)
   unfolding hears
@@ -118,7 +118,7 @@ module _ (D : Source) (p : Plan) (K : Keeps D p) (s : Stand D) (o : Done (D .Sta
       left .cleared l ∙ ap zeros (c .size)
 
   pub ended : Common D p K s → (next : Bool) (e : Ending) (y : List ℕ) → step ≡ ends (endedIn (s .collection) next) e → copied ≡ y
-      → numberIn (s .collection) next + sinceHeard + dropsHeard ≤ s .counts .changes + 1
+      → numberIn (s .collection) next + capturesHeard + dropsHeard ≤ s .counts .changes + 1
       → Told D p K (record { ending = e; count = s .collection .count }) (stepped D s o (ends (endedIn (s .collection) next) e) y)
       → Inv D p K (hears ours D s o)
   ended c next e y ex ey t told =

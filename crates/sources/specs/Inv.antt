@@ -30,7 +30,7 @@ module _ (D : Source) (p : Plan) (K : Keeps D p) where
     pub reached : Reached (mostChunks p (s .headers)) (s .collection)
     pub counted : s .collection .count ≡ length (s .sent)
     -- a failed attempt saw a capture or a drop
-    pub tries : s .collection .attempt .number + s .counts .since + s .counts .drops ≤ s .counts .changes + 1
+    pub tries : s .collection .attempt .number + s .counts .captures + s .counts .drops ≤ s .counts .changes + 1
 
   -- ---- in an attempt
 
@@ -53,14 +53,14 @@ module _ (D : Source) (p : Plan) (K : Keeps D p) where
     pub good : K .Good (s .checked)
     pub here : K .Good (s .source)
     pub live : showsNone p (K .shows (s .checked)) ≡ false
-    pub gens : K .shows (s .source) .generation ≡ (s .collection .attempt .generation + s .counts .since) % 256
-    pub stays : s .counts .since ≡ 0 → s .counts .drops ≡ 0 → showsNone p (K .shows (s .source)) ≡ false → SameLast s
+    pub gens : K .shows (s .source) .generation ≡ (s .collection .attempt .generation + s .counts .captures) % 256
+    pub stays : s .counts .captures ≡ 0 → s .counts .drops ≡ 0 → showsNone p (K .shows (s .source)) ≡ false → SameLast s
     pub begun : 2 ≤ length (s .sent)
 
   -- with no capture since and the same last blocks the page is the same, whether it was dropped or not: an area of no blocks asks for no chunk
   pub record Mid (s : Stand D) (done : ℕ) (served : Bool) : Type 0 where
     pub opened : Opened s
-    pub kept : s .counts .since ≡ 0 → showsNone p (K .shows (s .source)) ≡ false → SameLast s → Still s done served
+    pub kept : s .counts .captures ≡ 0 → showsNone p (K .shows (s .source)) ≡ false → SameLast s → Still s done served
     pub some : areaLast p (s .collection .attempt .last) ≡ 0 → (done ≡ 0) × (served ≡ true)
 
   -- the copy stands, and the acknowledgement is awaited

@@ -84,7 +84,7 @@ module _ (D : Source) (p : Plan) (K : Keeps D p) (s : Stand D) (o : Done (D .Sta
     sent = stepped D s o x y .sent;
     headers = dataOf o ∷ s .headers;
     checked = o .source;
-    counts = record { since = 0; drops = 0; changes = s .counts .changes; lentRefusals = stepped D s o x y .counts .lentRefusals };
+    counts = record { captures = 0; drops = 0; changes = s .counts .changes; lentRefusals = stepped D s o x y .counts .lentRefusals };
   }
 
   judged-is : (x : Stepped) (y : List ℕ) → judged x y ≡ stepped D s o x y
@@ -153,14 +153,14 @@ module _ (D : Source) (p : Plan) (K : Keeps D p) (s : Stand D) (o : Done (D .Sta
   -- ---- a header that closes an attempt: m is what was known before it
 
   module _ (cl : closingBy (state .phase) ≡ true) (op : Opened D p K s) (same : o .source ≡ s .source)
-      (stood : s .counts .since ≡ 0 → showsNone p (K .shows (s .source)) ≡ false → SameLast D p K s → (refusedBy (state .phase) ≡ false) × Still D p K s (areaLast p (state .attempt .last)) true) where
+      (stood : s .counts .captures ≡ 0 → showsNone p (K .shows (s .source)) ≡ false → SameLast D p K s → (refusedBy (state .phase) ≡ false) × Still D p K s (areaLast p (state .attempt .last)) true) where
     some : 1 ≤ length (s .sent)
     some = omega (arith, op .begun)
 
     low : state .attempt .generation < 256
     low = rw (op .generation) (K .byte (s .checked) (op .good))
 
-    moved : h .generation ≡ (state .attempt .generation + s .counts .since) % 256
+    moved : h .generation ≡ (state .attempt .generation + s .counts .captures) % 256
     moved = rw same (op .gens)
 
     gone : showsNone p h ≡ true → Inv D p K (hears ours D s o)
@@ -175,15 +175,15 @@ module _ (D : Source) (p : Plan) (K : Keeps D p) (s : Stand D) (o : Done (D .Sta
       match-is t e = rw look e
 
       -- with neither a capture nor a drop it matches
-      unmoved : s .counts .since ≡ 0 → s .counts .drops ≡ 0 → matches (state .attempt) h ≡ true
+      unmoved : s .counts .captures ≡ 0 → s .counts .drops ≡ 0 → matches (state .attempt) h ≡ true
       unmoved none whole =
           let g : h .generation ≡ state .attempt .generation = omega (arith, none, moved, low) in
           let l : h .last ≡ state .attempt .last = ap (λ (d : D .State). K .shows d .last) same ∙ op .stays none whole (rw (← same) n) in
           rw (eq-eqb (h .generation) (state .attempt .generation) g, l) (same-itself (state .attempt .last))
 
-      changed : matches (state .attempt) h ≡ false → 1 ≤ s .counts .since + s .counts .drops
+      changed : matches (state .attempt) h ≡ false → 1 ≤ s .counts .captures + s .counts .drops
       changed e =
-          same-or-not (s .counts .since) 0
+          same-or-not (s .counts .captures) 0
           (λ none. same-or-not (s .counts .drops) 0 (λ whole. clash (unmoved none whole) e) (λ dropped. omega (arith, dropped)))
           (λ moved. omega (arith, moved))
 
@@ -265,13 +265,13 @@ module _ (D : Source) (p : Plan) (K : Keeps D p) (s : Stand D) (o : Done (D .Sta
         stands : Inv D p K (hears ours D s o)
         stands = by-test (eqb (p .page) controllerPage) (λ t. acknowledges t) (λ t. done t)
 
-    pub closing-inv : s .counts .since ≤ 255 → s .counts .changes < p .attempts → Inv D p K (hears ours D s o)
+    pub closing-inv : s .counts .captures ≤ 255 → s .counts .changes < p .attempts → Inv D p K (hears ours D s o)
     closing-inv few more =
         by-test (showsNone p h)
         (λ n. gone n)
         (λ n. by-test (matches (state .attempt) h)
         (λ e.
-        let none : s .counts .since ≡ 0 = omega (arith, same-generation n e, moved, low) in
+        let none : s .counts .captures ≡ 0 = omega (arith, same-generation n e, moved, low) in
         let k = stood none (rw (← same) n) (ap (λ (d : D .State). K .shows d .last) (sym same) ∙ same-blocks n e) in
         stands n e (k .0) (k .1))
         (λ e. mismatch n more e))

@@ -35,7 +35,7 @@ module _ (D : Source) (p : Plan) (K : Keeps D p) where
   -- with nothing, since 08h of d has no data and no other command was sent.
   -- All but success leave zeros.
   pub data Told (e : Finish) (s : Stand D) : Type 0 where
-    succeeded : e .ending ≡ Success (ltb 0 (s .counts .since)) → s .copy ≡ K .area (s .checked) ++ zeros (p .room - length (K .area (s .checked)))
+    succeeded : e .ending ≡ Success (ltb 0 (s .counts .captures)) → s .copy ≡ K .area (s .checked) ++ zeros (p .room - length (K .area (s .checked)))
         → showsNone p (K .shows (s .checked)) ≡ false → Told e s
     lacked : e .ending ≡ NoRoom → s .copy ≡ zeros (p .room) → p .room < areaBytes p (K .shows (s .checked) .last) → Told e s
     withdrew : e .ending ≡ Withdrawn → s .copy ≡ zeros (p .room) → showsNone p (K .shows (s .checked)) ≡ true → 2 ≤ length (s .sent) → Told e s

@@ -59,19 +59,19 @@ pub record Turn (D : Source) : Type 0 where
 -- what is counted of a run: the captures and the drops since the last header that was judged, both together since the first command, and how many
 -- commands of the run were refused for lent data
 pub record Counters : Type 0 where
-  pub since : ℕ
+  pub captures : ℕ
   pub drops : ℕ
   pub changes : ℕ
   pub lentRefusals : ℕ
 
 -- n captures and m drops more
 abbrev pub changed : ℕ → ℕ → Counters → Counters
-changed n m c = record { since = c .since + n; drops = c .drops + m; changes = c .changes + n + m; lentRefusals = c .lentRefusals }
+changed n m c = record { captures = c .captures + n; drops = c .drops + m; changes = c .changes + n + m; lentRefusals = c .lentRefusals }
 
 -- a completion, which judges a header or not and is a refusal for lent data or not
 abbrev pub heard : Bool → Bool → Counters → Counters
 heard judged lent c =
-    record { since = pick judged 0 (c .since); drops = pick judged 0 (c .drops); changes = c .changes; lentRefusals = c .lentRefusals + pick lent 1 0 }
+    record { captures = pick judged 0 (c .captures); drops = pick judged 0 (c .drops); changes = c .changes; lentRefusals = c .lentRefusals + pick lent 1 0 }
 
 -- where a run stands: the collection, what setup or the last step said, the copy and the source; and what the promise speaks of: the commands
 -- given, in order, the data of the headers that were judged, the last one first, the source as it stood at that one, and what is counted
@@ -158,7 +158,7 @@ module _ (C : Collector) (D : Source) where
     sent = given (C .setup p .next);
     headers = [];
     checked = d;
-    counts = record { since = 0; drops = 0; changes = 0; lentRefusals = 0 };
+    counts = record { captures = 0; drops = 0; changes = 0; lentRefusals = 0 };
   }
 
   -- the whole run: the first command with what it is lent, and then the turns

@@ -33,8 +33,8 @@ module _ (D : Source) (p : Plan) (K : Keeps D p) where
 
   -- a header that closes an attempt
   closes : (f : Phase) → closingBy f ≡ true → judgedBy f ≡ true → (s : Stand D) (l : D .Lent) → Common D p K s → s .collection .phase ≡ f → Opened D p K s
-      → (s .counts .since ≡ 0 → showsNone p (K .shows (s .source)) ≡ false → SameLast D p K s → (refusedBy f ≡ false) × Still D p K s (areaLast p (s .collection .attempt .last)) true)
-      → s .counts .since ≤ 255 → s .counts .changes < p .attempts → forLent (D .command l (wordsBy f p (s .collection .attempt .last)) (s .source) .answer) ≡ false
+      → (s .counts .captures ≡ 0 → showsNone p (K .shows (s .source)) ≡ false → SameLast D p K s → (refusedBy f ≡ false) × Still D p K s (areaLast p (s .collection .attempt .last)) true)
+      → s .counts .captures ≤ 255 → s .counts .changes < p .attempts → forLent (D .command l (wordsBy f p (s .collection .attempt .last)) (s .source) .answer) ≡ false
       → Inv D p K (hears ours D s (D .command l (wordsBy f p (s .collection .attempt .last)) (s .source)))
   closes f cl hd s l c e op stood few more fair =
       let o : Done (D .State) = D .command l (wordsBy f p (s .collection .attempt .last)) (s .source) in
@@ -44,7 +44,7 @@ module _ (D : Source) (p : Plan) (K : Keeps D p) where
       (λ none live last. let k = stood none live last in (ap refusedBy e ∙ k .0, k .1)) few more
 
   own-by : (f : Phase) (s : Stand D) (l : D .Lent) → Common D p K s → s .collection .phase ≡ f → At D p K f s → endedBy f ≡ false
-      → s .counts .since ≤ 255 → s .counts .changes < p .attempts → forLent (D .command l (wordsBy f p (s .collection .attempt .last)) (s .source) .answer) ≡ false
+      → s .counts .captures ≤ 255 → s .counts .changes < p .attempts → forLent (D .command l (wordsBy f p (s .collection .attempt .last)) (s .source) .answer) ≡ false
       → Inv D p K (hears ours D s (D .command l (wordsBy f p (s .collection .attempt .last)) (s .source)))
   own-by First s l c e a g few more fair = absurd a
   own-by (Chunk at) s l c e a g few more fair =
@@ -57,7 +57,7 @@ module _ (D : Source) (p : Plan) (K : Keeps D p) where
       ack-inv D p K s (D .command l (wordsBy Ack p (s .collection .attempt .last)) (s .source)) c e a (K .ack l (s .collection .attempt .last) (s .source) (a .opened .here) fair) few
   own-by Ended s l c e a g few more fair = clash {t = true} refl g
 
-  own-inv : (s : Stand D) (l : D .Lent) → Inv D p K s → endedBy (s .collection .phase) ≡ false → s .counts .since ≤ 255 → s .counts .changes < p .attempts
+  own-inv : (s : Stand D) (l : D .Lent) → Inv D p K s → endedBy (s .collection .phase) ≡ false → s .counts .captures ≤ 255 → s .counts .changes < p .attempts
       → forLent (D .command l (awaitedOf (s .collection)) (s .source) .answer) ≡ false
       → Inv D p K (hears ours D s (D .command l (awaitedOf (s .collection)) (s .source)))
   unfolding awaitedOf
@@ -106,7 +106,7 @@ module _ (D : Source) (p : Plan) (K : Keeps D p) where
       (omega (arith, a .0, b .0), omega (arith, a .1, b .1))
 
   -- the captures since the last header are among the changes since the first command
-  since-few : (s : Stand D) → Common D p K s → s .counts .since ≤ s .counts .changes
+  since-few : (s : Stand D) → Common D p K s → s .counts .captures ≤ s .counts .changes
   since-few s c = omega (arith, c .tries, c .house .low)
 
   -- what is awaited is sent, and at the end nothing is
@@ -133,7 +133,7 @@ module _ (D : Source) (p : Plan) (K : Keeps D p) where
     stays g = subst (λ (n : Next). Inv D p K (turnBy ours D n t s)) (sym (over-by (s .collection .phase) s (i .now) g .said)) i
 
     -- few captures since the last header, and an attempt left
-    goes : endedBy (s .collection .phase) ≡ false → before .counts .since ≤ 255 → before .counts .changes < p .attempts → turnBy ours D (s .said) t s .counts .lentRefusals ≡ 0
+    goes : endedBy (s .collection .phase) ≡ false → before .counts .captures ≤ 255 → before .counts .changes < p .attempts → turnBy ours D (s .said) t s .counts .lentRefusals ≡ 0
         → Inv D p K (turnBy ours D (s .said) t s)
     goes g few more none =
         let said = said-by (s .collection .phase) s (i .now) g in
