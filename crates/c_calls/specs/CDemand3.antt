@@ -3,6 +3,7 @@
 use Prim.Native.Nat.{ℕ, _+_, _-_, _*_, _≤_, _<_}
 use mathlib.Core.Path.{_≡_, refl, sym, ap, subst, _∙_}
 use mathlib.Core.List.{List, _++_}
+use mathlib.Core.Bool.{Bool}
 use native.Mathlib.Omega.{arith}
 use lib.ListN.{length, getD}
 use lib.Dec.{ltb, eqb}
@@ -23,7 +24,8 @@ use Rattle.collection.specs.Collection.{setupOf}
 use Rattle.controller.specs.Controller.{World}
 use Rattle.runs.specs.Run.{given, mostChunks}
 use Rattle.sources.specs.Source.{ours, Turn, Stand, Counters}
-use Rattle.sources.specs.Promise.{mostCommands, Finished}
+use Rattle.sources.specs.Promise.{noticed, mostCommands, Finished}
+use Rattle.sources.specs.Few.{Among, among, noticed-few}
 use Rattle.demand3.specs.Bench.{Loan, controllerSource}
 use Rattle.demand3.specs.Demand3.{final, TrueEnding, succeeded-by, room-short, gone, never-there, Demand3, demand3}
 use Rattle.shared_layouts.specs.Layouts.{capsOf}
@@ -67,27 +69,27 @@ module _ (page create area caps chunk attempts room : ℕ) (copy : List ℕ) (b 
 
   -- ---- what is promised
 
-  -- how it may end, by `answer` of struct bumbazeel_next; the last check is the last header that was judged
-  pub data CTrueEnding : Type 0 where
-    -- 0: the copy is the wanted area as it stood at the last check, and then zeros; `newer` is 1 just where a capture came after the last check
+  -- how it may end, by `answer` of struct bumbazeel_next; the last check is the last header that was judged, and newer what `newer` says of captures after it
+  pub data CTrueEnding (newer : Bool) : Type 0 where
+    -- 0: the copy is the wanted area as it stood at the last check, and then zeros
     succeeds : getD (last .next) 1 0 ≡ success
         → last .copy ≡ areaIn page area (last .checked) ++ zeros (room - block * lastIn page area (last .checked))
-        → getD (last .next) 2 0 ≡ one (ltb 0 (last .counts .captures))
-        → CTrueEnding
+        → getD (last .next) 2 0 ≡ one newer
+        → CTrueEnding newer
     -- 8: the wanted area was larger than the copy, which is zeros
     lacks-room : getD (last .next) 1 0 ≡ noRoom → last .copy ≡ zeros room
         → room < block * lastIn page area (last .checked)
-        → CTrueEnding
+        → CTrueEnding newer
     -- 10: the page is 08h, and `available` of the record was 0 at the last check, which was not the first header
     withdraws : getD (last .next) 1 0 ≡ withdrawn → last .copy ≡ zeros room
         → page ≡ controllerPage → getD (last .checked .own) 5 0 ≡ 0 → 2 ≤ last .made
-        → CTrueEnding
+        → CTrueEnding newer
     -- 11: the page is 08h, and `available` of the record was 0 at the first header
     finds-nothing : getD (last .next) 1 0 ≡ nothing → last .copy ≡ zeros room
         → page ≡ controllerPage → getD (last .checked .own) 5 0 ≡ 0 → last .made ≡ 1
-        → CTrueEnding
+        → CTrueEnding newer
 
-  pub record CDemand3 (k : ℕ) : Type 0 where
+  pub record CDemand3 (k : ℕ) (newer : Bool) : Type 0 where
     -- `count` of struct bumbazeel_state is how often the program called `bumbazeel_command`, one more while a command is awaited; with an ending `count` of
     -- struct bumbazeel_next is that number
     pub counted : valueAt 8 32 (last .state) ≡ last .made + one (eqb (kindIn (last .next)) send)
@@ -101,9 +103,9 @@ module _ (page create area caps chunk attempts room : ℕ) (copy : List ℕ) (b 
     -- no step answers BUMBAZEEL_REFUSED
     pub never : kindIn (last .next) ≡ refusal → ⊥
     -- every ending is one of the four, and true
-    pub ended : kindIn (last .next) ≡ ending → CTrueEnding
+    pub ended : kindIn (last .next) ≡ ending → CTrueEnding newer
 
-  -- ---- the theorem
+  -- ---- the theorems
 
   module _ (k : ℕ) (a : CAsked k) where
     set-up : setupAnswer p ≡ success
@@ -116,25 +118,16 @@ module _ (page create area caps chunk attempts room : ℕ) (copy : List ℕ) (b 
     fit : Fit p b
     fit = first-fit p copy b first ts (a .sends) (a .spared) (record-typed (b .own) (a .long) (a .bytes)) same-caps
 
-    -- the run that the calls are, and what demand 3 says of it
+    -- the run that the calls are
     abbrev s : Stand (controllerSource page)
     s = final ours p copy (worldAt b) first ts
 
     r : Same p set-up last s
     r = program-same p set-up copy b first ts fit
 
-    d : Demand3 ours p copy (worldAt b) first ts k
-    d =
-        demand3 p copy (worldAt b) first ts k
-        (record {
-          taken = set-up;
-          caps = same-caps;
-          room = a .whole-copy;
-          typed = fit .good .typed;
-          attempts = a .more;
-          changes = subst (λ (x : Counters). x .changes ≤ k) (r .counts) (a .changes);
-          spared = ap (λ (x : Counters). x .lentRefusals) (sym (r .counts)) ∙ a .spared;
-        })
+    counted-among : Among (last .counts)
+    unfolding final
+    counted-among = subst Among (sym (r .counts)) (among ours (controllerSource page) p copy (worldAt b) first ts)
 
     count-is : valueAt 8 32 (last .state) ≡ s .collection .count
     unfolding stateAt
@@ -151,62 +144,85 @@ module _ (page create area caps chunk attempts room : ℕ) (copy : List ℕ) (b 
     chunks-are : mostChunks p (last .headers) ≡ mostChunks p (s .headers)
     chunks-are = ap (mostChunks p) (r .headers)
 
-    -- ---- an ending
+    module _ (few : last .counts .mostInAttempt ≤ 255) where
+      -- what demand 3 says of it
+      d : Demand3 ours p copy (worldAt b) first ts k (noticed (s .counts .captures))
+      d =
+          demand3 p copy (worldAt b) first ts k
+          (record {
+            taken = set-up;
+            caps = same-caps;
+            room = a .whole-copy;
+            typed = fit .good .typed;
+            attempts = a .more;
+            changes = subst (λ (x : Counters). x .changes ≤ k) (r .counts) (a .changes);
+            spared = ap (λ (x : Counters). x .lentRefusals) (sym (r .counts)) ∙ a .spared;
+          })
+          (subst (λ (x : Counters). x .mostInAttempt ≤ 255) (r .counts) few)
 
-    module _ (e : Finish) (q : s .said ≡ Ends e) where
-      next-is : last .next ≡ nextBytes (Ends e)
-      next-is = r .next ∙ ap nextBytes q
+      -- ---- an ending
 
-      answer-is : getD (last .next) 1 0 ≡ numberOf (e .ending)
-      answer-is = ap (λ (l : List ℕ). getD l 1 0) next-is ∙ number-back e
+      module _ (e : Finish) (q : s .said ≡ Ends e) where
+        next-is : last .next ≡ nextBytes (Ends e)
+        next-is = r .next ∙ ap nextBytes q
 
-      newer-is : getD (last .next) 2 0 ≡ one (newerOf (e .ending))
-      newer-is = ap (λ (l : List ℕ). getD l 2 0) next-is ∙ newer-back e
+        answer-is : getD (last .next) 1 0 ≡ numberOf (e .ending)
+        answer-is = ap (λ (l : List ℕ). getD l 1 0) next-is ∙ number-back e
 
-      all-made : length (s .sent) ≡ last .made
-      all-made = let none : length (given (s .said)) ≡ 0 = ap (λ (n : Next). length (given n)) q in omega (arith, r .made, none)
+        newer-is : getD (last .next) 2 0 ≡ one (newerOf (e .ending))
+        newer-is = ap (λ (l : List ℕ). getD l 2 0) next-is ∙ newer-back e
 
-      says-made : valueAt 8 24 (last .next) ≡ last .made
-      says-made =
-          let small = r .typed .count in
-          let whole = ap (λ (x : Collection). x .count) (r .state) in
-          ap (λ (l : List ℕ). valueAt 8 24 l) next-is ∙ count-back e (omega (arith, d .says e q, d .counted, whole, small)) ∙ d .says e q ∙ all-made
+        all-made : length (s .sent) ≡ last .made
+        all-made = let none : length (given (s .said)) ≡ 0 = ap (λ (n : Next). length (given n)) q in omega (arith, r .made, none)
 
-      true-ending : TrueEnding ours p copy (worldAt b) first ts e (worldAt (last .checked)) → CTrueEnding
-      unfolding recordAt
-      true-ending (succeeded-by n c f) =
-          succeeds (answer-is ∙ n)
-          (r .copy ∙ c ∙ rw (long-is p set-up (last .checked), area-is p set-up (last .checked) (r .checked-fit)))
-          (newer-is ∙ ap one (f ∙ ap (λ (x : Counters). ltb 0 (x .captures)) (sym (r .counts))))
-      true-ending (room-short n c f) = lacks-room (answer-is ∙ n) (r .copy ∙ c) (omega (arith, last-is p set-up (last .checked), f))
-      true-ending (gone n c h z m) = withdraws (answer-is ∙ n) (r .copy ∙ c) h z (omega (arith, all-made, m))
-      true-ending (never-there n c h z m) = finds-nothing (answer-is ∙ n) (r .copy ∙ c) h z (omega (arith, all-made, m))
+        says-made : valueAt 8 24 (last .next) ≡ last .made
+        says-made =
+            let small = r .typed .count in
+            let whole = ap (λ (x : Collection). x .count) (r .state) in
+            ap (λ (l : List ℕ). valueAt 8 24 l) next-is ∙ count-back e (omega (arith, d .says e q, d .counted, whole, small)) ∙ d .says e q ∙ all-made
 
-    ending-says : (n : Next) → s .said ≡ n → kindOf n ≡ ending → (valueAt 8 24 (last .next) ≡ last .made) × CTrueEnding
-    ending-says (Send w) q z = absurd (omega arith)
-    ending-says (Refuse n) q z = absurd (omega arith)
-    ending-says (Ends e) q z = (
-      says-made e q,
-      true-ending e q (subst (λ (v : World). TrueEnding ours p copy (worldAt b) first ts e v) (sym (r .checked)) (d .ended e q)),
-    )
+        true-ending : TrueEnding ours p copy (worldAt b) first ts (noticed (s .counts .captures)) e (worldAt (last .checked)) → CTrueEnding (noticed (last .counts .captures))
+        unfolding recordAt
+        true-ending (succeeded-by n c f) =
+            succeeds (answer-is ∙ n)
+            (r .copy ∙ c ∙ rw (long-is p set-up (last .checked), area-is p set-up (last .checked) (r .checked-fit)))
+            (newer-is ∙ ap one (f ∙ ap (λ (x : Counters). noticed (x .captures)) (sym (r .counts))))
+        true-ending (room-short n c f) = lacks-room (answer-is ∙ n) (r .copy ∙ c) (omega (arith, last-is p set-up (last .checked), f))
+        true-ending (gone n c h z m) = withdraws (answer-is ∙ n) (r .copy ∙ c) h z (omega (arith, all-made, m))
+        true-ending (never-there n c h z m) = finds-nothing (answer-is ∙ n) (r .copy ∙ c) h z (omega (arith, all-made, m))
 
-    refused-never : (n : Next) → s .said ≡ n → kindOf n ≡ refusal → ⊥
-    refused-never (Send w) q z = absurd (omega arith)
-    refused-never (Ends e) q z = absurd (omega arith)
-    refused-never (Refuse n) q z = d .never n q
+      ending-says : (n : Next) → s .said ≡ n → kindOf n ≡ ending → (valueAt 8 24 (last .next) ≡ last .made) × CTrueEnding (noticed (last .counts .captures))
+      ending-says (Send w) q z = absurd (omega arith)
+      ending-says (Refuse n) q z = absurd (omega arith)
+      ending-says (Ends e) q z = (
+        says-made e q,
+        true-ending e q (subst (λ (v : World). TrueEnding ours p copy (worldAt b) first ts (noticed (s .counts .captures)) e v) (sym (r .checked)) (d .ended e q)),
+      )
 
-    has-ended : Finished (controllerSource page) s → kindIn (last .next) ≡ ending
-    has-ended f = kind-is ∙ ap kindOf (f .said)
+      refused-never : (n : Next) → s .said ≡ n → kindOf n ≡ refusal → ⊥
+      refused-never (Send w) q z = absurd (omega arith)
+      refused-never (Ends e) q z = absurd (omega arith)
+      refused-never (Refuse n) q z = d .never n q
 
-    -- Setup, command, capture, drop and step on bytes, each lent the bytes that the last call left, are a run, and demand 3 holds of it.
-    pub c-demand3 : CDemand3 k
-    c-demand3 = record {
-      counted = count-is ∙ d .counted ∙ r .made ∙ ap (λ (n : ℕ). last .made + n) (awaited (s .said) ∙ ap (λ (n : ℕ). one (eqb n send)) (sym kind-is));
-      says = λ q. ending-says (s .said) refl (sym kind-is ∙ q) .0;
-      bounded = rw (count-is, chunks-are) (d .bounded);
-      limited = omega (arith, count-is, d .limited);
-      ends = λ h. has-ended (d .ends (rw chunks-are at h));
-      ends-limited = λ h. has-ended (d .ends-limited h);
-      never = λ q. refused-never (s .said) refl (sym kind-is ∙ q);
-      ended = λ q. ending-says (s .said) refl (sym kind-is ∙ q) .1;
-    }
+      has-ended : Finished (controllerSource page) s → kindIn (last .next) ≡ ending
+      has-ended f = kind-is ∙ ap kindOf (f .said)
+
+      -- Setup, command, capture, drop and step on bytes, each lent the bytes that the last call left, are a run, and demand 3 holds of it, with at most 255 captures
+      -- of the page between a header that opens an attempt and the one that closes it. `newer` is 1 just where the captures after the last check are no multiple of 256.
+      pub c-demand3 : CDemand3 k (noticed (last .counts .captures))
+      c-demand3 = record {
+        counted = count-is ∙ d .counted ∙ r .made ∙ ap (λ (n : ℕ). last .made + n) (awaited (s .said) ∙ ap (λ (n : ℕ). one (eqb n send)) (sym kind-is));
+        says = λ q. ending-says (s .said) refl (sym kind-is ∙ q) .0;
+        bounded = rw (count-is, chunks-are) (d .bounded);
+        limited = omega (arith, count-is, d .limited);
+        ends = λ h. has-ended (d .ends (rw chunks-are at h));
+        ends-limited = λ h. has-ended (d .ends-limited h);
+        never = λ q. refused-never (s .said) refl (sym kind-is ∙ q);
+        ended = λ q. ending-says (s .said) refl (sym kind-is ∙ q) .1;
+      }
+
+    -- With k at most 255 that is so by itself, and `newer` is 1 just where a capture came after the last check.
+    pub c-demand3-few : k ≤ 255 → CDemand3 k (ltb 0 (last .counts .captures))
+    c-demand3-few few =
+        subst (λ (newer : Bool). CDemand3 k newer) (noticed-few (last .counts .captures) (omega (arith, counted-among .since, a .changes)))
+        (c-demand3 (omega (arith, counted-among .most, a .changes)))

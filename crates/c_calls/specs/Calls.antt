@@ -16,7 +16,7 @@ use Rattle.words.specs.Words.{longBytes, readOf}
 use Rattle.plans.specs.declared.Plan.{Plan}
 use Rattle.collection.specs.Collection.{setupOf}
 use Rattle.controller.specs.Controller.{Candidate}
-use Rattle.sources.specs.Source.{Turn, Counters, changed, heard, forLent}
+use Rattle.sources.specs.Source.{Turn, Counters, uncounted, changed, heard, forLent}
 use Rattle.demand3.specs.Bench.{Event, Sent, Taken, Dropped, Loan, controllerSource}
 use Rattle.state_layout.specs.Layout.{stateBytes}
 use Rattle.next_layout.specs.Layout.{send, nextBytes}
@@ -80,8 +80,8 @@ dropsBy page Dropped b = one (eqb page hostPage && eqb (drop b .answer) success)
 -- ---- the program
 
 -- what it holds: the controller's bytes, struct bumbazeel_state, struct bumbazeel_next and the copy. And what one who watches its calls can tell: how many
--- times it called `bumbazeel_command`, the data of the headers that were judged, the last one first, the controller's bytes after that one, the captures and
--- drops since then and since the first command, and its answers 3, 4 and 5
+-- times it called `bumbazeel_command`, the data of the headers that were judged, the last one first, the controller's bytes after that one, and what is
+-- counted: the captures and drops since then and since the first command, the most captures in an attempt, and its answers 3, 4 and 5
 pub record Program : Type 0 where
   pub controller : Controller
   pub state : List ℕ
@@ -166,7 +166,7 @@ module _ (p : Plan) where
     made = 0;
     headers = [];
     checked = b;
-    counts = record { captures = 0; drops = 0; changes = 0; lentRefusals = 0 };
+    counts = uncounted;
   }
 
   -- the whole loop: setup, the first command with what it is lent, and then the turns

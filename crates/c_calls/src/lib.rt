@@ -1,5 +1,5 @@
-// The C boundary, call after call: `bumbazeel_setup`, `bumbazeel_command`, `bumbazeel_capture` and `bumbazeel_step`, each lent the bytes that the last call
-// left, are a run, and demand 3 holds of it.
+// The C boundary, call after call: `bumbazeel_setup`, `bumbazeel_command`, `bumbazeel_capture`, `bumbazeel_drop` and `bumbazeel_step`, each lent the bytes
+// that the last call left, are a run, and demand 3 holds of it.
 //
 // It rests on both sides of the C boundary, whose definitions the contracts of those functions cite, and on demand3, whose theorem it uses.
 // specs/Calls.antt is a C program's loop, and specs/CDemand3.antt what such a program may rest on, both said of bytes; specs/Same.antt shows that the loop

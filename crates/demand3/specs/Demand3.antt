@@ -3,7 +3,7 @@
 use Prim.Native.Nat.{ℕ, _+_, _-_, _*_, _≤_, _<_}
 use mathlib.Core.Path.{_≡_, subst, ap}
 use mathlib.Core.List.{List, _++_}
-use mathlib.Core.Bool.{true, false}
+use mathlib.Core.Bool.{Bool, true, false}
 use native.Mathlib.Omega.{arith}
 use lib.ListN.{length}
 use lib.Dec.{ltb, eqb}
@@ -16,7 +16,6 @@ use Rattle.records.specs.Records.{controllerFields, fieldsFor}
 use Rattle.records.specs.Back.{Typed}
 use Rattle.plans.specs.declared.Plan.{Plan}
 use Rattle.plans.specs.declared.Phase.the-variants.{First}
-use Rattle.plans.specs.Limits.{plan-limits}
 use Rattle.plans.specs.Plans.{setupAnswer, areaLast, wordsBy}
 use Rattle.completions.specs.Completions.{showsNone}
 use Rattle.judgement.specs.Endings.{numberOf, newerOf}
@@ -27,8 +26,9 @@ use Rattle.controller.specs.Controller.{World, lentBy}
 use Rattle.controller.specs.Laws.{asked, command-answer}
 use Rattle.runs.specs.Run.{mostChunks}
 use Rattle.sources.specs.Source.{Collector, ours, Turn, Stand, forLent, collected}
-use Rattle.sources.specs.Promise.{Told, succeeded, lacked, withdrew, empty, mostCommands, Finished}
+use Rattle.sources.specs.Promise.{Told, succeeded, lacked, withdrew, empty, noticed, mostCommands, Finished}
 use Rattle.sources.specs.Demand.{demand, first-fair}
+use Rattle.sources.specs.Few.{Among, among, noticed-few}
 use Rattle.demand3.specs.Bench.{Loan, ownOf, controllerSource}
 use Rattle.demand3.specs.Shown.{showsFor, wantedArea, Good}
 use Rattle.demand3.specs.Own.{not-four}
@@ -57,18 +57,18 @@ module _ (c : Collector) (p : Plan) (copy : List ℕ) (w : World) (first : Loan)
 
   -- ---- what is promised
 
-  -- how it may end, v being the controller at the last check, the last header that was judged
-  pub data TrueEnding (e : Finish) (v : World) : Type 0 where
-    -- 0: the copy is the wanted area of v and then zeros; a newer capture is said to be unread just where one came after the last check
-    succeeded-by : numberOf (e .ending) ≡ success → final .copy ≡ wantedArea p v ++ zeros (p .room - length (wantedArea p v)) → newerOf (e .ending) ≡ ltb 0 (final .counts .captures) → TrueEnding e v
+  -- how it may end, v being the controller at the last check, the last header that was judged, and newer what is said of captures after it
+  pub data TrueEnding (newer : Bool) (e : Finish) (v : World) : Type 0 where
+    -- 0: the copy is the wanted area of v and then zeros
+    succeeded-by : numberOf (e .ending) ≡ success → final .copy ≡ wantedArea p v ++ zeros (p .room - length (wantedArea p v)) → newerOf (e .ending) ≡ newer → TrueEnding newer e v
     -- 8: the wanted area of v is larger than the copy, which is zeros
-    room-short : numberOf (e .ending) ≡ noRoom → final .copy ≡ zeros (p .room) → p .room < block * areaLast p (fieldsFor (p .page) (v .own) .last) → TrueEnding e v
+    room-short : numberOf (e .ending) ≡ noRoom → final .copy ≡ zeros (p .room) → p .room < block * areaLast p (fieldsFor (p .page) (v .own) .last) → TrueEnding newer e v
     -- 10: the page is 08h, and its TCDA went to 0 after the first header
-    gone : numberOf (e .ending) ≡ withdrawn → final .copy ≡ zeros (p .room) → p .page ≡ controllerPage → v .own .controller .tcda ≡ 0 → 2 ≤ length (final .sent) → TrueEnding e v
+    gone : numberOf (e .ending) ≡ withdrawn → final .copy ≡ zeros (p .room) → p .page ≡ controllerPage → v .own .controller .tcda ≡ 0 → 2 ≤ length (final .sent) → TrueEnding newer e v
     -- 11: the page is 08h, and its TCDA was 0 at the first header
-    never-there : numberOf (e .ending) ≡ nothing → final .copy ≡ zeros (p .room) → p .page ≡ controllerPage → v .own .controller .tcda ≡ 0 → length (final .sent) ≡ 1 → TrueEnding e v
+    never-there : numberOf (e .ending) ≡ nothing → final .copy ≡ zeros (p .room) → p .page ≡ controllerPage → v .own .controller .tcda ≡ 0 → length (final .sent) ≡ 1 → TrueEnding newer e v
 
-  pub record Demand3 (k : ℕ) : Type 0 where
+  pub record Demand3 (k : ℕ) (newer : Bool) : Type 0 where
     -- the reported count is the number of commands in the run's record
     pub counted : final .collection .count ≡ length (final .sent)
     pub says : (e : Finish) → final .said ≡ Ends e → e .count ≡ length (final .sent)
@@ -82,9 +82,9 @@ module _ (c : Collector) (p : Plan) (copy : List ℕ) (w : World) (first : Loan)
     -- never 13, 14 or 15
     pub never : (n : ℕ) → final .said ≡ Refuse n → ⊥
     -- every ending is one of the four, and true
-    pub ended : (e : Finish) → final .said ≡ Ends e → TrueEnding e (final .checked)
+    pub ended : (e : Finish) → final .said ≡ Ends e → TrueEnding newer e (final .checked)
 
--- ---- the theorem, of our collector
+-- ---- the theorems, of our collector
 
 module _ (p : Plan) (copy : List ℕ) (w : World) (first : Loan) (ts : List (Turn (controllerSource (p .page)))) where
   abbrev end : Stand (controllerSource (p .page))
@@ -98,7 +98,7 @@ module _ (p : Plan) (copy : List ℕ) (w : World) (first : Loan) (ts : List (Tur
       let z = eqb-true _ 0 (and-right (eqb (p .page) controllerPage) (eqb (fieldsFor (p .page) (end .checked .own) .tcda) 0) n) in
       (q, subst (λ (page : ℕ). fieldsFor page (end .checked .own) .tcda ≡ 0) q z)
 
-  told : (e : setupAnswer p ≡ success) (x : Finish) → Told (controllerSource (p .page)) p (controllerKeeps p e) x end → TrueEnding ours p copy w first ts x (end .checked)
+  told : (e : setupAnswer p ≡ success) (x : Finish) → Told (controllerSource (p .page)) p (controllerKeeps p e) x end → TrueEnding ours p copy w first ts (noticed (end .counts .captures)) x (end .checked)
   unfolding controllerKeeps showsFor
   told e x (succeeded a c l) = succeeded-by (ap numberOf a) c (ap newerOf a)
   told e x (lacked a c r) = room-short (ap numberOf a) c r
@@ -120,10 +120,12 @@ module _ (p : Plan) (copy : List ℕ) (w : World) (first : Loan) (ts : List (Tur
         caps = a .caps;
       }
 
-  pub demand3 : (k : ℕ) → Asked ours p copy w first ts k → Demand3 ours p copy w first ts k
+  -- With at most 255 captures of the page between a header that opens an attempt and the one that closes it. Of captures after the last check, which count for k
+  -- alone, it is said that one was acknowledged unread just where their number is no multiple of 256.
+  pub demand3 : (k : ℕ) → Asked ours p copy w first ts k → end .counts .mostInAttempt ≤ 255 → Demand3 ours p copy w first ts k (noticed (end .counts .captures))
   unfolding controllerKeeps final
-  demand3 k a =
-      let d = demand (controllerSource (p .page)) p (controllerKeeps p (a .taken)) copy w first ts (a .taken) (a .room) (good k a) k (omega (arith, a .attempts, plan-limits p (a .taken) .attempts-high)) (a .attempts) (a .changes) (a .spared) in
+  demand3 k a few =
+      let d = demand (controllerSource (p .page)) p (controllerKeeps p (a .taken)) copy w first ts (a .taken) (a .room) (good k a) k (a .attempts) (a .changes) few (a .spared) in
       let r = d .0 in
       record {
         counted = r .counted;
@@ -135,3 +137,11 @@ module _ (p : Plan) (copy : List ℕ) (w : World) (first : Loan) (ts : List (Tur
         never = r .never;
         ended = λ x q. told (a .taken) x (r .told x q);
       }
+
+  -- With k at most 255 that is so by itself, and a newer capture is said to have been acknowledged unread just where one came after the last check.
+  pub demand3-few : (k : ℕ) → Asked ours p copy w first ts k → k ≤ 255 → Demand3 ours p copy w first ts k (ltb 0 (end .counts .captures))
+  unfolding final
+  demand3-few k a few =
+      let c : Among (end .counts) = among ours (controllerSource (p .page)) p copy w first ts in
+      subst (λ (newer : Bool). Demand3 ours p copy w first ts k newer) (noticed-few (end .counts .captures) (omega (arith, c .since, a .changes)))
+      (demand3 k a (omega (arith, c .most, a .changes)))

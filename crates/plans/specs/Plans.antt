@@ -23,7 +23,7 @@ use Rattle.plans.specs.Phases.{asked}
 
 -- the most attempts, and the most bytes of a copy
 abbrev pub mostAttempts : ℕ
-mostAttempts = 256
+mostAttempts = 65535
 
 abbrev pub mostRoom : ℕ
 mostRoom = 536870912

@@ -12,7 +12,7 @@ ghost use Rattle.plans.specs.Phases.{asked, endedBy};
 ghost use Rattle.plans.specs.Plans.{planTests, setupAnswer, areaLast, areaBytes, fitsRoom, chunkBlocks, mcdaOf, asksFor, insideBy, phaseAt, wordsBy, dueBy};
 
 // The most attempts of a collection.
-pub const MOST_ATTEMPTS: u32 = 256;
+pub const MOST_ATTEMPTS: u32 = 65535;
 // The most bytes of a copy.
 pub const MOST_ROOM: usize = 536870912;
 

@@ -7,8 +7,8 @@ use mathlib.Core.Bool.{Bool, true, false, not}
 use native.Mathlib.Omega.{arith}
 use lib.ListN.{length, take, drop, length-append, length-take}
 use lib.Seq.{take-at, take-add}
-use lib.Dec.{eqb, ltb}
-use borrow.Author.Tests.{eq-eqb, ne-eqb, eqb-true, eqb-false, lt-ltb}
+use lib.Dec.{eqb}
+use borrow.Author.Tests.{eq-eqb, ne-eqb, eqb-true, eqb-false}
 use Rattle.choices.specs.Choice.{pick}
 use Rattle.choices.specs.Tests.{by-test, clash, same-or-not}
 use Rattle.copies.specs.Parts.{zeros, put}
@@ -31,9 +31,9 @@ use Rattle.collection.specs.declared.Next.the-variants.{Send}
 use Rattle.collection.specs.declared.Stepped.{Stepped}
 use Rattle.collection.specs.Copied.{chunk-copy, ending-copy, sending-copy}
 use Rattle.runs.specs.Run.{given}
-use Rattle.sources.specs.Source.{Source, ours, Done, Stand, fine, dataOf, stepped, hears}
+use Rattle.sources.specs.Source.{Source, ours, Done, heard, Stand, forLent, fine, dataOf, stepped, hears}
 use Rattle.sources.specs.Keeps.{Keeps, Header}
-use Rattle.sources.specs.Promise.{succeeded}
+use Rattle.sources.specs.Promise.{noticed, succeeded}
 use Rattle.sources.specs.Inv.{Common, Opened, Mid, Had, Inv}
 use Rattle.sources.specs.Heard.{takes, at-phase, step, copied, finish, ended}
 
@@ -55,12 +55,13 @@ full-done c at b l h f = let e = chunk-full c at b h (omega arith) in omega arit
 short-done : (c at b : ℕ) → 1 ≤ at → at ≤ b → b < at + c → at - 1 + chunkBlocks c at b ≡ b
 short-done c at b l h f = let e = chunk-short c at b h (omega arith) in omega arith
 
--- another generation is seen just where a capture moved it
-newer-is : (seen old since : ℕ) → old < 256 → since ≤ 255 → seen ≡ (old + since) % 256 → not (eqb seen old) ≡ ltb 0 since
-newer-is seen old since low few e =
-    by-test (eqb seen old)
-    (λ t. let none : since ≡ 0 = omega (arith, eqb-true seen old t) in rw (t, none))
-    (λ t. let some : 0 < since = omega (arith, eqb-false seen old t) in rw (t, lt-ltb 0 since some))
+same-test : (a b c d : ℕ) → (a ≡ b → c ≡ d) → (c ≡ d → a ≡ b) → eqb a b ≡ eqb c d
+same-test a b c d f g =
+    by-test (eqb a b) (λ t. t ∙ sym (eq-eqb c d (f (eqb-true a b t)))) (λ t. t ∙ sym (ne-eqb c d (λ e. eqb-false a b t (g e))))
+
+-- another generation is seen just where captures moved it, and did not bring it round
+newer-is : (seen old since : ℕ) → old < 256 → seen ≡ (old + since) % 256 → not (eqb seen old) ≡ noticed since
+newer-is seen old since low e = ap not (same-test seen old (since % 256) 0 (λ same. omega arith) (λ round. omega arith))
 
 module _ (D : Source) (p : Plan) (K : Keeps D p) (s : Stand D) (o : Done (D .State)) (c : Common D p K s) where
   abbrev state : Collection
@@ -85,7 +86,7 @@ module _ (D : Source) (p : Plan) (K : Keeps D p) (s : Stand D) (o : Done (D .Sta
       sent = stepped D s o x y .sent;
       headers = s .headers;
       checked = s .checked;
-      counts = record { captures = s .counts .captures; drops = s .counts .drops; changes = s .counts .changes; lentRefusals = stepped D s o x y .counts .lentRefusals };
+      counts = heard false (forLent (o .answer)) (s .counts);
     }
 
     plain-is : (x : Stepped) (y : List ℕ) → plain x y ≡ stepped D s o x y
@@ -178,9 +179,9 @@ module _ (D : Source) (p : Plan) (K : Keeps D p) (s : Stand D) (o : Done (D .Sta
 
   -- ---- the acknowledgement
 
-  pub ack-inv : state .phase ≡ Ack → Had D p K s → Header p o (K .shows (s .source)) → s .counts .captures ≤ 255 → Inv D p K (hears ours D s o)
+  pub ack-inv : state .phase ≡ Ack → Had D p K s → Header p o (K .shows (s .source)) → Inv D p K (hears ours D s o)
   unfolding lookOf lookBy expectedOf
-  ack-inv f h hdr few =
+  ack-inv f h hdr =
       let op = h .opened in
       let z : fine o ≡ true = eq-eqb (o .answer) success (hdr .answer) in
       let t : refusalOf state true (length (o .bytes)) (length (s .copy)) ≡ success =
@@ -193,6 +194,6 @@ module _ (D : Source) (p : Plan) (K : Keeps D p) (s : Stand D) (o : Done (D .Sta
       left .stood refl ∙ rw (c .plan, c .size, h .filled, l) in
       let low : state .attempt .generation < 256 = rw (op .generation) (K .byte (s .checked) (op .good)) in
       let seen : lookOf state (o .bytes) ≡ K .shows (s .source) = rw (f, c .plan) (hdr .seen) in
-      let said : newer ≡ ltb 0 (s .counts .captures) = rw seen (newer-is (K .shows (s .source) .generation) (state .attempt .generation) (s .counts .captures) low few (op .gens)) in
+      let said : newer ≡ noticed (s .counts .captures) = rw seen (newer-is (K .shows (s .source) .generation) (state .attempt .generation) (s .counts .captures) low (op .gens)) in
       ended D p K s o c false (Success newer) _ ex ey (rw f (c .tries))
-      (succeeded (ap Success (said ∙ ap (λ (g : Phase). ltb 0 (pick (judgedBy g) 0 (s .counts .captures))) (sym f))) (rw f) (rw f (op .live)))
+      (succeeded (ap Success (said ∙ ap (λ (g : Phase). noticed (pick (judgedBy g) 0 (s .counts .captures))) (sym f))) (rw f) (rw f (op .live)))

@@ -7,12 +7,15 @@ use mathlib.Core.Bool.{false}
 use native.Mathlib.Nat.{mul-le-mul-right}
 use native.Mathlib.Omega.{arith}
 use lib.ListN.{length}
+use lib.Dec.{eqb}
+use Rattle.choices.specs.Choice.{pick-cases}
 use Rattle.choices.specs.Tests.{by-test}
 use Rattle.copies.specs.Parts.{zeros}
 use Rattle.answers.specs.Answers.{success}
-use Rattle.pages.specs.Pages.{most4}
+use Rattle.pages.specs.Pages.{controllerPage, most4}
 use Rattle.plans.specs.declared.Plan.{Plan}
 use Rattle.plans.specs.declared.Phase.the-variants.{First}
+use Rattle.plans.specs.Limits.{plan-limits}
 use Rattle.plans.specs.Phases.{endedBy}
 use Rattle.plans.specs.Plans.{setupAnswer, wordsBy}
 use Rattle.collection.specs.Collection.{awaitedOf, beginning, setupOf}
@@ -29,6 +32,13 @@ use Rattle.sources.specs.Promise.{Told, mostCommands, Promise, Finished}
 use Rattle.sources.specs.Inv.{Common, Over, Inv}
 use Rattle.sources.specs.Judged.{first-inv}
 use Rattle.sources.specs.Turns.{run-grows, no-lent-refusal, hears-counts, said-by, over-by, run-inv, going-counts}
+
+-- the bound of every plan that setup takes fits 64 bits
+pub bound-limit : (p : Plan) → setupAnswer p ≡ success → (k : ℕ) → k < p .attempts → mostCommands p k most4 ≤ 68718493697
+bound-limit p e k more =
+    let l = plan-limits p e .attempts-high in
+    let one : acknowledging p ≤ 1 = pick-cases (λ (n : ℕ). n ≤ 1) (eqb (p .page) controllerPage) (λ q. omega arith) (λ q. omega arith) in
+    omega arith
 
 module _ (D : Source) (p : Plan) (K : Keeps D p) where
   -- ---- the first command
@@ -106,7 +116,7 @@ module _ (D : Source) (p : Plan) (K : Keeps D p) where
     first-fair e none =
         let grown = run-grows D p K ts start in
         let none′ : run ours D ts start .counts .lentRefusals ≡ 0 = subst (λ (s : Stand D). s .counts .lentRefusals ≡ 0) (final-is e) none in
-        no-lent-refusal D p K (begun ours D p copy d) (D .command first (awaitedOf (beginning p First 1)) d) (omega (arith, grown .1, none′))
+        no-lent-refusal D p K (begun ours D p copy d) (D .command first (awaitedOf (beginning p First 1)) d) (omega (arith, grown .lentRefusals, none′))
 
     -- as many completions as the count can be end it
     ends : setupAnswer p ≡ success → (k b : ℕ) → Promise D p K k (run ours D ts start) → run ours D ts start .collection .count ≤ b → b ≤ 1 + length ts
@@ -121,15 +131,18 @@ module _ (D : Source) (p : Plan) (K : Keeps D p) where
     ends e k b r few long (Refuse n) q = absurd (r .never n q)
 
     -- A collection that setup takes, into a copy of its room, from a good source, with at most k captures and drops after its first command, k
-    -- being less than 256 and than the attempts, and none of its commands refused for lent data: the promise, and that it ends, by any bound b of its count.
-    pub demand : setupAnswer p ≡ success → length copy ≡ p .room → K .Good d → (k : ℕ) → k ≤ 255 → k < p .attempts → final .counts .changes ≤ k → final .counts .lentRefusals ≡ 0
+    -- being less than the attempts, at most 255 of them captures in one attempt, and none of its commands refused for lent data: the promise, and that it ends,
+    -- by any bound b of its count.
+    pub demand : setupAnswer p ≡ success → length copy ≡ p .room → K .Good d → (k : ℕ) → k < p .attempts → final .counts .changes ≤ k → final .counts .mostInAttempt ≤ 255
+        → final .counts .lentRefusals ≡ 0
         → Promise D p K k final × ((b : ℕ) → final .collection .count ≤ b → b ≤ 1 + length ts → Finished D final)
     unfolding awaitedOf
-    demand e l g k few more h none =
+    demand e l g k more h few none =
         let q = final-is e in
         let h′ : run ours D ts start .counts .changes ≤ k = subst (λ (s : Stand D). s .counts .changes ≤ k) q h in
+        let few′ : run ours D ts start .counts .mostInAttempt ≤ 255 = subst (λ (s : Stand D). s .counts .mostInAttempt ≤ 255) q few in
         let none′ : run ours D ts start .counts .lentRefusals ≡ 0 = subst (λ (s : Stand D). s .counts .lentRefusals ≡ 0) q none in
         let fair = first-fair e none in
-        let i : Inv D p K (run ours D ts start) = run-inv D p K k few more ts start (opened copy d first e l g fair) h′ none′ in
+        let i : Inv D p K (run ours D ts start) = run-inv D p K ts start (opened copy d first e l g fair) (omega arith) few′ none′ in
         subst (λ (s : Stand D). Promise D p K k s × ((b : ℕ) → s .collection .count ≤ b → b ≤ 1 + length ts → Finished D s)) (sym q)
         (promises k (run ours D ts start) i h′, λ b few long. ends e k b (promises k (run ours D ts start) i h′) few long (run ours D ts start .said) refl)

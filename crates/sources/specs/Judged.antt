@@ -32,7 +32,7 @@ use Rattle.collection.specs.declared.Next.the-variants.{Send}
 use Rattle.collection.specs.declared.Stepped.{Stepped}
 use Rattle.collection.specs.Copied.{ending-copy, sending-copy}
 use Rattle.runs.specs.Bound.{look-header}
-use Rattle.sources.specs.Source.{Source, ours, Done, Stand, fine, dataOf, stepped, hears}
+use Rattle.sources.specs.Source.{Source, ours, Done, heard, Stand, forLent, fine, dataOf, stepped, hears}
 use Rattle.sources.specs.Keeps.{Keeps, Header}
 use Rattle.sources.specs.Promise.{Told, succeeded, lacked, withdrew, empty}
 use Rattle.sources.specs.Inv.{Common, Still, SameLast, Opened, Mid, Had, Inv}
@@ -84,7 +84,7 @@ module _ (D : Source) (p : Plan) (K : Keeps D p) (s : Stand D) (o : Done (D .Sta
     sent = stepped D s o x y .sent;
     headers = dataOf o ∷ s .headers;
     checked = o .source;
-    counts = record { captures = 0; drops = 0; changes = s .counts .changes; lentRefusals = stepped D s o x y .counts .lentRefusals };
+    counts = heard true (forLent (o .answer)) (s .counts);
   }
 
   judged-is : (x : Stepped) (y : List ℕ) → judged x y ≡ stepped D s o x y

@@ -8,4 +8,5 @@ pub mod Judged
 pub mod Chunks
 pub mod Turns
 pub mod Demand
+pub mod Few
 pub mod Lazy

@@ -1,11 +1,11 @@
 -- What is promised of a run: how it may end, that every ending is true, and its bound.
 -- Assumes nothing.
-use Prim.Native.Nat.{ℕ, _+_, _-_, _*_, _≤_, _<_}
+use Prim.Native.Nat.{ℕ, _+_, _-_, _*_, _%_, _≤_, _<_}
 use mathlib.Core.Path.{_≡_}
 use mathlib.Core.List.{_++_}
-use mathlib.Core.Bool.{true, false}
+use mathlib.Core.Bool.{Bool, true, false, not}
 use lib.ListN.{length}
-use lib.Dec.{ltb}
+use lib.Dec.{eqb}
 use Rattle.copies.specs.Parts.{zeros}
 use Rattle.pages.specs.Pages.{most4}
 use Rattle.plans.specs.declared.Plan.{Plan}
@@ -23,19 +23,23 @@ pub record Finished (D : Source) (s : Stand D) : Type 0 where
   pub ending : Finish
   pub said : s .said ≡ Ends ending
 
+-- so many captures leave another generation than there was: 256 of them bring it round
+abbrev pub noticed : ℕ → Bool
+noticed captures = not (eqb (captures % 256) 0)
+
 -- the most commands of a run with k captures and drops at most, C being the chunks: 1 + (k + 1)(C + 1), one more on 08h
 abbrev pub mostCommands : Plan → ℕ → ℕ → ℕ
 mostCommands p k chunks = 1 + (k + 1) * (chunks + 1) + acknowledging p
 
 module _ (D : Source) (p : Plan) (K : Keeps D p) where
   -- how a run may end, d being the source at the last header that was judged:
-  -- with success, and then the copy is the wanted area of d and zeros after it, and a newer capture is said to be unread just where there was one;
+  -- with success, and then the copy is the wanted area of d and zeros after it, and a newer capture is said to be unread just where the generation shows it;
   -- for want of room, since the area of d is larger than the copy;
   -- withdrawn, since 08h of d has no data and the first header was another one;
   -- with nothing, since 08h of d has no data and no other command was sent.
   -- All but success leave zeros.
   pub data Told (e : Finish) (s : Stand D) : Type 0 where
-    succeeded : e .ending ≡ Success (ltb 0 (s .counts .captures)) → s .copy ≡ K .area (s .checked) ++ zeros (p .room - length (K .area (s .checked)))
+    succeeded : e .ending ≡ Success (noticed (s .counts .captures)) → s .copy ≡ K .area (s .checked) ++ zeros (p .room - length (K .area (s .checked)))
         → showsNone p (K .shows (s .checked)) ≡ false → Told e s
     lacked : e .ending ≡ NoRoom → s .copy ≡ zeros (p .room) → p .room < areaBytes p (K .shows (s .checked) .last) → Told e s
     withdrew : e .ending ≡ Withdrawn → s .copy ≡ zeros (p .room) → showsNone p (K .shows (s .checked)) ≡ true → 2 ≤ length (s .sent) → Told e s

@@ -6,7 +6,7 @@ use mathlib.Core.List.{List, [], _∷_, _++_}
 use mathlib.Core.Bool.{Bool, _&&_}
 use lib.ListN.{length}
 use lib.Dec.{leb, eqb}
-use Rattle.choices.specs.Choice.{pick}
+use Rattle.choices.specs.Choice.{pick, larger}
 use Rattle.answers.specs.Answers.{success, shortBuffer, brokenCandidate}
 use Rattle.words.specs.declared.Words.{Words}
 use Rattle.plans.specs.declared.Plan.{Plan}
@@ -56,22 +56,34 @@ pub record Turn (D : Source) : Type 0 where
   pub events : List (D .Event)
   pub lent : D .Lent
 
--- what is counted of a run: the captures and the drops since the last header that was judged, both together since the first command, and how many
--- commands of the run were refused for lent data
+-- what is counted of a run: the captures and the drops since the last header that was judged, both together since the first command, the most captures
+-- between a header that opens an attempt and the one that closes it, and how many commands of the run were refused for lent data
 pub record Counters : Type 0 where
   pub captures : ℕ
   pub drops : ℕ
   pub changes : ℕ
+  pub mostInAttempt : ℕ
   pub lentRefusals : ℕ
+
+-- before the first command
+abbrev pub uncounted : Counters
+uncounted = record { captures = 0; drops = 0; changes = 0; mostInAttempt = 0; lentRefusals = 0 }
 
 -- n captures and m drops more
 abbrev pub changed : ℕ → ℕ → Counters → Counters
-changed n m c = record { captures = c .captures + n; drops = c .drops + m; changes = c .changes + n + m; lentRefusals = c .lentRefusals }
+changed n m c =
+    record { captures = c .captures + n; drops = c .drops + m; changes = c .changes + n + m; mostInAttempt = c .mostInAttempt; lentRefusals = c .lentRefusals }
 
--- a completion, which judges a header or not and is a refusal for lent data or not
+-- a completion, which judges a header or not and is a refusal for lent data or not: the first header that is judged opens an attempt, and each later one
+-- closes an attempt and may open the next
 abbrev pub heard : Bool → Bool → Counters → Counters
-heard judged lent c =
-    record { captures = pick judged 0 (c .captures); drops = pick judged 0 (c .drops); changes = c .changes; lentRefusals = c .lentRefusals + pick lent 1 0 }
+heard judged lent c = record {
+  captures = pick judged 0 (c .captures);
+  drops = pick judged 0 (c .drops);
+  changes = c .changes;
+  mostInAttempt = pick judged (larger (c .mostInAttempt) (c .captures)) (c .mostInAttempt);
+  lentRefusals = c .lentRefusals + pick lent 1 0;
+}
 
 -- where a run stands: the collection, what setup or the last step said, the copy and the source; and what the promise speaks of: the commands
 -- given, in order, the data of the headers that were judged, the last one first, the source as it stood at that one, and what is counted
@@ -158,7 +170,7 @@ module _ (C : Collector) (D : Source) where
     sent = given (C .setup p .next);
     headers = [];
     checked = d;
-    counts = record { captures = 0; drops = 0; changes = 0; lentRefusals = 0 };
+    counts = uncounted;
   }
 
   -- the whole run: the first command with what it is lent, and then the turns

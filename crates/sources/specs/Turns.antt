@@ -6,7 +6,7 @@ use mathlib.Core.List.{List, [], _∷_}
 use mathlib.Core.Bool.{true, false}
 use native.Mathlib.Omega.{arith}
 use lib.ListN.{length}
-use Rattle.choices.specs.Choice.{pick-cases}
+use Rattle.choices.specs.Choice.{pick-cases, larger-left, larger-right}
 use Rattle.choices.specs.Tests.{by-test, clash}
 use Rattle.words.specs.declared.Words.{Words}
 use Rattle.plans.specs.declared.Plan.{Plan}
@@ -21,12 +21,29 @@ use Rattle.collection.specs.declared.Next.{Next}
 use Rattle.collection.specs.declared.Next.the-variants.{Send, End as Ends, Refuse}
 use Rattle.runs.specs.Run.{given}
 use Rattle.runs.specs.Counted.{step-counts}
-use Rattle.sources.specs.Source.{Source, ours, Done, Turn, Stand, forLent, fine, dataOf, happens, happen, hears, turnBy, run}
+use Rattle.sources.specs.Source.{Source, ours, Done, Turn, Counters, Stand, forLent, fine, dataOf, happens, happen, hears, turnBy, run}
 use Rattle.sources.specs.Keeps.{Keeps, Header}
 use Rattle.sources.specs.Inv.{Common, Still, SameLast, Opened, Over, At, Inv}
 use Rattle.sources.specs.Happened.{happen-inv}
 use Rattle.sources.specs.Judged.{closing-inv}
 use Rattle.sources.specs.Chunks.{chunk-inv, ack-inv}
+
+-- ---- what is counted since the first command only grows
+
+pub record Grows (a b : Counters) : Type 0 where
+  pub changes : a .changes ≤ b .changes
+  pub mostInAttempt : a .mostInAttempt ≤ b .mostInAttempt
+  pub lentRefusals : a .lentRefusals ≤ b .lentRefusals
+
+grows-not : (a : Counters) → Grows a a
+grows-not a = record { changes = omega arith; mostInAttempt = omega arith; lentRefusals = omega arith }
+
+grows-on : {a b c : Counters} → Grows a b → Grows b c → Grows a c
+grows-on x y = record {
+  changes = omega (arith, x .changes, y .changes);
+  mostInAttempt = omega (arith, x .mostInAttempt, y .mostInAttempt);
+  lentRefusals = omega (arith, x .lentRefusals, y .lentRefusals);
+}
 
 module _ (D : Source) (p : Plan) (K : Keeps D p) where
   -- ---- a command of the run
@@ -44,20 +61,22 @@ module _ (D : Source) (p : Plan) (K : Keeps D p) where
       (λ none live last. let k = stood none live last in (ap refusedBy e ∙ k .0, k .1)) few more
 
   own-by : (f : Phase) (s : Stand D) (l : D .Lent) → Common D p K s → s .collection .phase ≡ f → At D p K f s → endedBy f ≡ false
-      → s .counts .captures ≤ 255 → s .counts .changes < p .attempts → forLent (D .command l (wordsBy f p (s .collection .attempt .last)) (s .source) .answer) ≡ false
+      → (judgedBy f ≡ true → s .counts .captures ≤ 255) → s .counts .changes < p .attempts
+      → forLent (D .command l (wordsBy f p (s .collection .attempt .last)) (s .source) .answer) ≡ false
       → Inv D p K (hears ours D s (D .command l (wordsBy f p (s .collection .attempt .last)) (s .source)))
   own-by First s l c e a g few more fair = absurd a
   own-by (Chunk at) s l c e a g few more fair =
       let r = K .chunk at l (s .collection .attempt .last) (s .source) (a .opened .here) (rw (c .plan) at (c .house .room)) (rw (c .plan, e) at (c .house .inside)) fair in
       chunk-inv D p K s (D .command l (wordsBy (Chunk at) p (s .collection .attempt .last)) (s .source)) c at e a (r .0) (r .1) (r .2)
-  own-by (Close false) s l c e a g few more fair = closes (Close false) refl refl s l c e (a .opened) (λ none live last. (refl, a .kept none live last)) few more fair
+  own-by (Close false) s l c e a g few more fair = closes (Close false) refl refl s l c e (a .opened) (λ none live last. (refl, a .kept none live last)) (few refl) more fair
   own-by (Close true) s l c e a g few more fair =
-      closes (Close true) refl refl s l c e (a .opened) (λ none live last. clash {t = true} refl (sym (a .kept none live last .whole))) few more fair
+      closes (Close true) refl refl s l c e (a .opened) (λ none live last. clash {t = true} refl (sym (a .kept none live last .whole))) (few refl) more fair
   own-by Ack s l c e a g few more fair =
-      ack-inv D p K s (D .command l (wordsBy Ack p (s .collection .attempt .last)) (s .source)) c e a (K .ack l (s .collection .attempt .last) (s .source) (a .opened .here) fair) few
+      ack-inv D p K s (D .command l (wordsBy Ack p (s .collection .attempt .last)) (s .source)) c e a (K .ack l (s .collection .attempt .last) (s .source) (a .opened .here) fair)
   own-by Ended s l c e a g few more fair = clash {t = true} refl g
 
-  own-inv : (s : Stand D) (l : D .Lent) → Inv D p K s → endedBy (s .collection .phase) ≡ false → s .counts .captures ≤ 255 → s .counts .changes < p .attempts
+  own-inv : (s : Stand D) (l : D .Lent) → Inv D p K s → endedBy (s .collection .phase) ≡ false
+      → (judgedBy (s .collection .phase) ≡ true → s .counts .captures ≤ 255) → s .counts .changes < p .attempts
       → forLent (D .command l (awaitedOf (s .collection)) (s .source) .answer) ≡ false
       → Inv D p K (hears ours D s (D .command l (awaitedOf (s .collection)) (s .source)))
   unfolding awaitedOf
@@ -74,40 +93,41 @@ module _ (D : Source) (p : Plan) (K : Keeps D p) where
   happen-state [] s = refl
   happen-state (e ∷ es) s = happen-state es (happens D e s)
 
-  -- captures, drops and refusals for lent data only grow
-  happen-grows : (es : List (D .Event)) (s : Stand D) → (s .counts .changes ≤ happen D es s .counts .changes) × (s .counts .lentRefusals ≤ happen D es s .counts .lentRefusals)
+  happen-grows : (es : List (D .Event)) (s : Stand D) → Grows (s .counts) (happen D es s .counts)
   unfolding happen happens
-  happen-grows [] s = (omega arith, omega arith)
-  happen-grows (e ∷ es) s = let h = happen-grows es (happens D e s) in (omega (arith, h .0), omega (arith, h .1))
+  happen-grows [] s = grows-not (s .counts)
+  happen-grows (e ∷ es) s =
+      grows-on (record { changes = omega arith; mostInAttempt = omega arith; lentRefusals = omega arith }) (happen-grows es (happens D e s))
 
-  hears-grows : (s : Stand D) (o : Done (D .State)) → (s .counts .changes ≡ hears ours D s o .counts .changes) × (s .counts .lentRefusals ≤ hears ours D s o .counts .lentRefusals)
+  hears-grows : (s : Stand D) (o : Done (D .State)) → Grows (s .counts) (hears ours D s o .counts)
   unfolding hears
-  hears-grows s o = (refl, omega arith)
+  hears-grows s o = record {
+    changes = omega arith;
+    mostInAttempt =
+        pick-cases (λ (n : ℕ). s .counts .mostInAttempt ≤ n) (judgedBy (s .collection .phase)) (λ e. larger-left (s .counts .mostInAttempt) (s .counts .captures)) (λ e. omega arith);
+    lentRefusals = omega arith;
+  }
+
+  turn-grows : (n : Next) (t : Turn D) (s : Stand D) → Grows (s .counts) (turnBy ours D n t s .counts)
+  turn-grows (Send w) t s =
+      grows-on (happen-grows (t .events) s) (hears-grows (happen D (t .events) s) (D .command (t .lent) w (happen D (t .events) s .source)))
+  turn-grows (Ends e) t s = grows-not (s .counts)
+  turn-grows (Refuse n) t s = grows-not (s .counts)
+
+  pub run-grows : (ts : List (Turn D)) (s : Stand D) → Grows (s .counts) (run ours D ts s .counts)
+  unfolding run
+  run-grows [] s = grows-not (s .counts)
+  run-grows (t ∷ ts) s = grows-on (turn-grows (s .said) t s) (run-grows ts (turnBy ours D (s .said) t s))
 
   -- a command that is refused for lent data is counted
   pub no-lent-refusal : (s : Stand D) (o : Done (D .State)) → hears ours D s o .counts .lentRefusals ≡ 0 → forLent (o .answer) ≡ false
   unfolding hears
   no-lent-refusal s o = pick-cases (λ (n : ℕ). s .counts .lentRefusals + n ≡ 0 → forLent (o .answer) ≡ false) (forLent (o .answer)) (λ e z. absurd (omega arith)) (λ e z. e)
 
-  turn-grows : (n : Next) (t : Turn D) (s : Stand D) → (s .counts .changes ≤ turnBy ours D n t s .counts .changes) × (s .counts .lentRefusals ≤ turnBy ours D n t s .counts .lentRefusals)
-  turn-grows (Send w) t s =
-      let a = happen-grows (t .events) s in
-      let b = hears-grows (happen D (t .events) s) (D .command (t .lent) w (happen D (t .events) s .source)) in
-      (omega (arith, a .0, b .0), omega (arith, a .1, b .1))
-  turn-grows (Ends e) t s = (omega arith, omega arith)
-  turn-grows (Refuse n) t s = (omega arith, omega arith)
-
-  pub run-grows : (ts : List (Turn D)) (s : Stand D) → (s .counts .changes ≤ run ours D ts s .counts .changes) × (s .counts .lentRefusals ≤ run ours D ts s .counts .lentRefusals)
-  unfolding run
-  run-grows [] s = (omega arith, omega arith)
-  run-grows (t ∷ ts) s =
-      let a = turn-grows (s .said) t s in
-      let b = run-grows ts (turnBy ours D (s .said) t s) in
-      (omega (arith, a .0, b .0), omega (arith, a .1, b .1))
-
-  -- the captures since the last header are among the changes since the first command
-  since-few : (s : Stand D) → Common D p K s → s .counts .captures ≤ s .counts .changes
-  since-few s c = omega (arith, c .tries, c .house .low)
+  -- the captures of the attempt that a header closes are among the most in an attempt
+  closed-few : (s : Stand D) (o : Done (D .State)) → hears ours D s o .counts .mostInAttempt ≤ 255 → judgedBy (s .collection .phase) ≡ true → s .counts .captures ≤ 255
+  unfolding hears
+  closed-few s o few j = let l = larger-right (s .counts .mostInAttempt) (s .counts .captures) in omega (arith, rw j at few, l)
 
   -- what is awaited is sent, and at the end nothing is
   pub said-by : (f : Phase) (s : Stand D) → At D p K f s → endedBy f ≡ false → s .said ≡ Send (awaitedOf (s .collection))
@@ -124,49 +144,41 @@ module _ (D : Source) (p : Plan) (K : Keeps D p) where
   over-by Ack s a g = clash {t = true} refl (sym g)
   over-by Ended s a g = a
 
-  -- what a turn is asked for: few captures since the last header, and an attempt left
+  -- what a turn is asked for: few captures in an attempt that it closes, an attempt left, and no refusal for lent data
   module _ (t : Turn D) (s : Stand D) (i : Inv D p K s) where
-    abbrev before : Stand D
-    before = happen D (t .events) s
+    abbrev after : Stand D
+    after = turnBy ours D (s .said) t s
 
-    stays : endedBy (s .collection .phase) ≡ true → Inv D p K (turnBy ours D (s .said) t s)
+    stays : endedBy (s .collection .phase) ≡ true → Inv D p K after
     stays g = subst (λ (n : Next). Inv D p K (turnBy ours D n t s)) (sym (over-by (s .collection .phase) s (i .now) g .said)) i
 
-    -- few captures since the last header, and an attempt left
-    goes : endedBy (s .collection .phase) ≡ false → before .counts .captures ≤ 255 → before .counts .changes < p .attempts → turnBy ours D (s .said) t s .counts .lentRefusals ≡ 0
-        → Inv D p K (turnBy ours D (s .said) t s)
-    goes g few more none =
+    goes : endedBy (s .collection .phase) ≡ false → after .counts .changes < p .attempts → after .counts .mostInAttempt ≤ 255 → after .counts .lentRefusals ≡ 0 → Inv D p K after
+    goes g more few none =
         let said = said-by (s .collection .phase) s (i .now) g in
+        let before : Stand D = happen D (t .events) s in
+        let o : Done (D .State) = D .command (t .lent) (awaitedOf (s .collection)) (before .source) in
         let st : before .collection ≡ s .collection = happen-state (t .events) s in
         let w : awaitedOf (before .collection) ≡ awaitedOf (s .collection) = ap awaitedOf st in
-        let fair = no-lent-refusal before (D .command (t .lent) (awaitedOf (s .collection)) (before .source)) (subst (λ (n : Next). turnBy ours D n t s .counts .lentRefusals ≡ 0) said none) in
+        let more′ = subst (λ (n : Next). turnBy ours D n t s .counts .changes < p .attempts) said more in
+        let few′ = subst (λ (n : Next). turnBy ours D n t s .counts .mostInAttempt ≤ 255) said few in
+        let none′ = subst (λ (n : Next). turnBy ours D n t s .counts .lentRefusals ≡ 0) said none in
+        let grown = hears-grows before o .changes in
         subst (λ (n : Next). Inv D p K (turnBy ours D n t s)) (sym said)
-        (rw w at (own-inv before (t .lent) (happen-inv D p K (t .events) s g i) (rw st g) few more (rw w fair)))
+        (rw w at (own-inv before (t .lent) (happen-inv D p K (t .events) s g i) (rw st g) (closed-few before o few′) (omega (arith, grown, more′)) (rw w (no-lent-refusal before o none′))))
 
-    turn-changes : endedBy (s .collection .phase) ≡ false → before .counts .changes ≡ turnBy ours D (s .said) t s .counts .changes
-    turn-changes g =
-        let said = said-by (s .collection .phase) s (i .now) g in
-        subst (λ (n : Next). before .counts .changes ≡ turnBy ours D n t s .counts .changes) (sym said)
-        (hears-grows before (D .command (t .lent) (awaitedOf (s .collection)) (before .source)) .0)
-
-    -- k bounds the captures and drops of the whole run, so the captures of each attempt too
-    turn-inv : (k : ℕ) → k ≤ 255 → k < p .attempts → turnBy ours D (s .said) t s .counts .changes ≤ k → turnBy ours D (s .said) t s .counts .lentRefusals ≡ 0 → Inv D p K (turnBy ours D (s .said) t s)
-    turn-inv k few more l none =
-        by-test (endedBy (s .collection .phase)) (λ g. stays g)
-        (λ g.
-        let c = turn-changes g in
-        let b = since-few before (happen-inv D p K (t .events) s g i .common) in
-        goes g (omega arith) (omega arith) none)
+    turn-inv : after .counts .changes < p .attempts → after .counts .mostInAttempt ≤ 255 → after .counts .lentRefusals ≡ 0 → Inv D p K after
+    turn-inv more few none = by-test (endedBy (s .collection .phase)) (λ g. stays g) (λ g. goes g more few none)
 
   -- ---- a run
 
-  pub run-inv : (k : ℕ) → k ≤ 255 → k < p .attempts → (ts : List (Turn D)) (s : Stand D) → Inv D p K s → run ours D ts s .counts .changes ≤ k → run ours D ts s .counts .lentRefusals ≡ 0
-      → Inv D p K (run ours D ts s)
+  pub run-inv : (ts : List (Turn D)) (s : Stand D) → Inv D p K s → run ours D ts s .counts .changes < p .attempts → run ours D ts s .counts .mostInAttempt ≤ 255
+      → run ours D ts s .counts .lentRefusals ≡ 0 → Inv D p K (run ours D ts s)
   unfolding run
-  run-inv k few more [] s i l none = i
-  run-inv k few more (t ∷ ts) s i l none =
+  run-inv [] s i more few none = i
+  run-inv (t ∷ ts) s i more few none =
       let g = run-grows ts (turnBy ours D (s .said) t s) in
-      run-inv k few more ts (turnBy ours D (s .said) t s) (turn-inv t s i k few more (omega (arith, g .0, l)) (omega (arith, g .1, none))) l none
+      run-inv ts (turnBy ours D (s .said) t s)
+      (turn-inv t s i (omega (arith, g .changes, more)) (omega (arith, g .mostInAttempt, few)) (omega (arith, g .lentRefusals, none))) more few none
 
   -- while a run goes on each turn counts one command more
 

@@ -1,7 +1,7 @@
 // Whole runs at the edges of demand 3, through the compiled controller and the compiled collection. Of each run it writes the commands, H being
 // the first header, cN the chunk at block N, h a closing header and A the acknowledgement, with a ! where the controller refused; then the ending,
-// the number of commands, and whether the copy is as promised: the area as it stood at the last header, then zeros, or zeros alone. The file
-// stdout beside src/ has the table of these runs.
+// the number of commands, and whether the copy is as promised: the area as it stood at the last header, then zeros, or zeros alone. Of a run of a hundred
+// thousand commands it does not write them. The file stdout beside src/ has the table of these runs.
 use collection::Collection;
 use collection::Next;
 use controller::Answered;
@@ -15,7 +15,7 @@ use words::Command;
 use words::Words;
 
 // The most commands of a run: what comes before this one never happens.
-const NEVER: u32 = 16;
+const NEVER: u32 = 200000;
 
 // The first words of another host's create on 07h and of its acknowledgement of 08h, both of one block.
 const CREATE: u32 = 0x007f8107;
@@ -40,6 +40,8 @@ struct Case {
     // The plan's.
     chunk: u32,
     attempts: u32,
+    // Whether its commands are written.
+    named: bool,
     // Another host acknowledges 08h before this command.
     cleared: u32,
     // A firmware commit drops the data of 07h before this command.
@@ -49,6 +51,8 @@ struct Case {
     again: u32,
     times: u32,
     then: u32,
+    // And once before each closing header.
+    busy: bool,
 }
 
 // The controller's record, the collection, and the answer of its ending, which is 255 before.
@@ -68,6 +72,10 @@ fn letter(c: u8) {
 
 fn decimal(n: u64) {
     io::print_decimal(STDOUT_FILENO, n);
+}
+
+fn byte(b: u8) {
+    decimal(b as u64);
 }
 
 fn caps() -> Caps {
@@ -203,16 +211,29 @@ fn dropped(go: bool, r: Record, store: &[u8]) -> Record {
     r
 }
 
+fn closing(phase: Phase) -> bool {
+    match phase {
+        Phase::First => false,
+        Phase::Chunk(_) => false,
+        Phase::Close(_) => true,
+        Phase::Ack => false,
+        Phase::Ended => false,
+    }
+}
+
 // How many captures come before a command.
-fn captures_before(case: Case, at: u32) -> u32 {
+fn captures_before(case: Case, at: u32, phase: Phase) -> u32 {
     if (at == case.captured) | (at == case.again) {
         return case.times;
+    }
+    if case.busy & closing(phase) {
+        return 1;
     }
     0
 }
 
 // What happens before a command: an acknowledgement, a drop, and then captures.
-fn meanwhile(case: Case, at: u32, r: Record, store: &mut [u8; 2560]) -> Record {
+fn meanwhile(case: Case, at: u32, phase: Phase, r: Record, store: &mut [u8; 2560]) -> Record {
     let kept = cleared(at == case.cleared, r, store);
     let own = dropped(at == case.dropped, kept, store);
     let content = Content {
@@ -220,7 +241,13 @@ fn meanwhile(case: Case, at: u32, r: Record, store: &mut [u8; 2560]) -> Record {
         page: case.then,
         v: 30,
     };
-    captures(captures_before(case, at), case.page, content, own, store)
+    captures(
+        captures_before(case, at, phase),
+        case.page,
+        content,
+        own,
+        store,
+    )
 }
 
 // ---- a command of the run
@@ -297,11 +324,9 @@ fn sent(
     copy: &mut [u8; 2048],
     want: &mut [u8; 2048],
 ) -> Bench {
-    let phase = state.phase;
     let words = state.awaited();
     let asked = words::read(true, words);
     let mut buf = [0u8; 2560];
-    name(phase);
     keep_area(asked, own, store, want);
     let x = send(own, store, [0; 4], b"", words, &mut buf);
     let bytes = brought(x.answer, asked.bytes);
@@ -317,8 +342,13 @@ fn turn(
     copy: &mut [u8; 2048],
     want: &mut [u8; 2048],
 ) -> Bench {
-    let own = meanwhile(case, at, b.own, store);
-    sent(own, b.state, store, copy, want)
+    let state = b.state;
+    let phase = state.phase;
+    if case.named {
+        name(phase);
+    }
+    let own = meanwhile(case, at, phase, b.own, store);
+    sent(own, state, store, copy, want)
 }
 
 // The commands of a run, up to its ending, and the ending's answer.
@@ -339,13 +369,22 @@ fn turns(
     b.answer
 }
 
+// What the first two blocks of a copy begin with.
+fn begins(copy: &[u8; 2048]) {
+    say(b" | not the area but blocks that begin with ");
+    byte(copy[0]);
+    say(b" and ");
+    byte(copy[512]);
+    letter(b'\n');
+}
+
 // The end of a line: whether the copy is what the ending promises.
 fn end(answer: u8, copy: &[u8; 2048], want: &[u8; 2048]) {
     if answer == 0 {
         if check::same(copy, want) {
             say(b" | the area, then zeros\n");
         } else {
-            say(b" | not the area\n");
+            begins(copy);
         }
     } else {
         if check::same(copy, &[0u8; 2048]) {
@@ -394,12 +433,14 @@ fn calm(page: u8, blocks: u32, chunk: u32, attempts: u32) -> Case {
         top: blocks,
         chunk,
         attempts,
+        named: true,
         cleared: NEVER,
         dropped: NEVER,
         captured: NEVER,
         again: NEVER,
         times: 1,
         then: 2,
+        busy: false,
     }
 }
 
@@ -513,15 +554,44 @@ fn late_runs() {
     );
 }
 
-fn many_runs() {
-    let mut c = calm(pages::HOST, 2, 1, 256);
+// Many captures in one attempt of 07h, and drops among them.
+fn crowded_runs() {
+    let mut c = calm(pages::HOST, 2, 1, 301);
     c.captured = 2;
     c.times = 255;
     run(b"07h, 255 captures in one attempt:", c);
+    emptied(b"07h, a drop and 255 captures in one attempt:", c, 2);
+    emptied(b"07h, 255 captures and a drop in one attempt:", c, 3);
     c.times = 256;
     run(b"07h, 256 captures in one attempt:", c);
+    emptied(b"07h, 256 captures and a drop in one attempt:", c, 3);
     c.then = 3;
     run(b"07h, 256 captures of another size in one attempt:", c);
+}
+
+// 08h of one block, captured so many times between the last check and the acknowledgement.
+fn unread(label: &[u8], times: u32) {
+    let mut c = calm(pages::CONTROLLER, 1, 1, 301);
+    c.then = 1;
+    c.captured = 3;
+    c.times = times;
+    run(label, c);
+}
+
+// More captures in a run than a generation counts.
+fn many_runs() {
+    let mut c = calm(pages::HOST, 2, 1, 301);
+    c.captured = 3;
+    c.again = 6;
+    c.times = 150;
+    run(b"07h, 150 captures in each of two attempts:", c);
+    unread(b"08h, 256 captures after the last check:", 256);
+    unread(b"08h, 257 captures after the last check:", 257);
+    let mut d = calm(pages::HOST, 1, 1, 65535);
+    d.then = 1;
+    d.busy = true;
+    d.named = false;
+    run(b"07h, a capture in each of 65,535 attempts:", d);
 }
 
 fn main() {
@@ -530,5 +600,6 @@ fn main() {
     drop_runs();
     controller_runs();
     late_runs();
+    crowded_runs();
     many_runs();
 }

@@ -169,8 +169,11 @@ fn setups() {
     setup(b"taken", p);
     p.area = 4;
     setup(b"area 4 without DA4S", p);
-    p.attempts = 257;
-    setup(b"the same with 257 attempts", p);
+    p.attempts = 65536;
+    setup(b"the same with 65,536 attempts", p);
+    setup(b"65,536 attempts", plan(0x07, 65536));
+    setup(b"65,535 attempts", plan(0x07, 65535));
+    setup(b"no attempt", plan(0x07, 0));
     let mut q = plan(0x07, 2);
     q.room = 0;
     setup(b"a copy of no bytes", q);
@@ -342,6 +345,23 @@ fn third(phase: Phase) -> Collection {
     }
 }
 
+// The last attempt of 65,535, with a count of commands.
+fn counted(label: &[u8], count: u64) {
+    let mut copy = [9u8; 2048];
+    let last = [3, 9, 9, 0];
+    let s = Collection {
+        plan: plan(0x08, 65535),
+        phase: Phase::Close(false),
+        attempt: Attempt {
+            number: 65535,
+            generation: 5,
+            last,
+        },
+        count,
+    };
+    tried(label, s, false, b"", &mut copy);
+}
+
 fn made_by_hand() {
     let mut copy = [9u8; 2048];
     let close = third(Phase::Close(false));
@@ -355,6 +375,8 @@ fn made_by_hand() {
         &mut copy,
     );
     tried(b"the same after its ending", over, true, &data, &mut copy);
+    counted(b"65,535 attempts and the most commands", 68718493697);
+    counted(b"65,535 attempts and a command more", 68718493698);
 }
 
 fn main() {

@@ -1,10 +1,10 @@
 -- The runs, computed from the definitions.
 -- Assumes nothing.
-use Prim.Native.Nat.{ℕ, _-_}
+use Prim.Native.Nat.{ℕ}
 use mathlib.Core.Path.{_≡_, refl}
 use mathlib.Core.List.{List, [], _∷_, _++_}
-use mathlib.Core.Bool.{false}
-use lib.ListN.{replicate, length, getD}
+use mathlib.Core.Bool.{true, false}
+use lib.ListN.{replicate, length}
 use Rattle.choices.specs.Tests.{holds}
 use Rattle.copies.specs.Parts.{zeros, putAt}
 use Rattle.pages.specs.Pages.{lastOk, sameLast, greatestOf, blocksOf, sizeOf, topOf, trimmedTo, trimOf}
@@ -45,9 +45,9 @@ undisturbed = after 8 512 [] 2
 abbrev pub disturbed : ℕ → List (Turn (controllerSource 8))
 disturbed n = after 8 512 (Taken newer ∷ []) n
 
--- 256 captures there, and two commands after the chunks
-abbrev pub round : List (Turn (controllerSource 8))
-round = after 8 512 (replicate 256 (Taken newer)) 2
+-- a capture between the last check and the acknowledgement
+abbrev pub late : List (Turn (controllerSource 8))
+late = quiet 8 512 3 ++ atOnce 8 512 (Taken newer ∷ []) 0
 
 -- another host's create after the first chunk of 07h
 abbrev pub hostDisturbed : List (Turn (controllerSource 7))
@@ -100,9 +100,12 @@ pub record Computed : Type 0 where
   pub ours-undisturbed : Came (planOf 2) (runOf ours 2 512 undisturbed) (endsWith (Success false) 5) old old 0 0 5 2
   pub ours-disturbed : Came (planOf 2) (runOf ours 2 512 (disturbed 5)) (endsWith (Success false) 8) new new 1 0 8 2
   pub ours-host : Came hostPlan hostRun (endsWith (Success false) 9) (replicate 2560 3 ++ zeros 512) (replicate 2560 3) 1 0 9 3
+  pub ours-late : Came (planOf 2) (runOf ours 2 512 late) (endsWith (Success true) 5) old old 1 0 5 2
+  pub late-most : runOf ours 2 512 late .counts .mostInAttempt ≡ 0
   -- ours, with a drop on 07h: before the first chunk, a block a command (the second chunk is refused) and two; after the last chunk; where no block was
   -- wanted before it either; and where 07h was empty already
   pub dropped-early : Came (smallPlan 3 1 2) (smallRun ours 3 1 2 two (dropFirst 5)) (endsWith (Success false) 5) (zeros 1024) [] 1 0 5 2
+  pub dropped-most : smallRun ours 3 1 2 two (dropFirst 5) .counts .mostInAttempt ≡ 0
   pub dropped-whole : Came (smallPlan 3 2 2) (smallRun ours 3 2 2 two (dropFirst 5)) (endsWith (Success false) 4) (zeros 1024) [] 1 0 4 1
   pub dropped-late : Came (smallPlan 3 1 2) (smallRun ours 3 1 2 two (dropLast 3)) (endsWith (Success false) 5) (zeros 1024) [] 1 0 5 2
   pub dropped-unwanted : Came (smallPlan 1 1 2) (smallRun ours 1 1 2 (0 ∷ 0 ∷ 2 ∷ 0 ∷ []) (dropFirst 5)) (endsWith (Success false) 3) (zeros 1024) [] 1 0 3 0
@@ -127,7 +130,10 @@ computed = record {
   ours-undisturbed = record { said-is = refl; copy-is = refl; area-is = refl; changes-are = refl; refused-are = refl; sent-are = refl; chunks-are = refl };
   ours-disturbed = record { said-is = refl; copy-is = refl; area-is = refl; changes-are = refl; refused-are = refl; sent-are = refl; chunks-are = refl };
   ours-host = record { said-is = refl; copy-is = refl; area-is = refl; changes-are = refl; refused-are = refl; sent-are = refl; chunks-are = refl };
+  ours-late = record { said-is = refl; copy-is = refl; area-is = refl; changes-are = refl; refused-are = refl; sent-are = refl; chunks-are = refl };
+  late-most = refl;
   dropped-early = record { said-is = refl; copy-is = refl; area-is = refl; changes-are = refl; refused-are = refl; sent-are = refl; chunks-are = refl };
+  dropped-most = refl;
   dropped-whole = record { said-is = refl; copy-is = refl; area-is = refl; changes-are = refl; refused-are = refl; sent-are = refl; chunks-are = refl };
   dropped-late = record { said-is = refl; copy-is = refl; area-is = refl; changes-are = refl; refused-are = refl; sent-are = refl; chunks-are = refl };
   dropped-unwanted = record { said-is = refl; copy-is = refl; area-is = refl; changes-are = refl; refused-are = refl; sent-are = refl; chunks-are = refl };
@@ -144,14 +150,3 @@ computed = record {
   used-up-by-a-drop = record { said-is = refl; copy-is = refl; area-is = refl; changes-are = refl; refused-are = refl; sent-are = refl; chunks-are = refl };
   short = record { said-is = refl; copy-is = refl; area-is = refl; changes-are = refl; refused-are = refl; sent-are = refl; chunks-are = refl };
 }
-
--- with 256 captures between the chunks the generation has come round: the copy begins as the page before and goes on as the one after
-pub record Round : Type 0 where
-  pub said-is : runOf ours 256 512 round .said ≡ endsWith (Success false) 5
-  pub begins : getD (runOf ours 256 512 round .copy) 0 0 ≡ 5
-  pub goes-on : getD (runOf ours 256 512 round .copy) 512 0 ≡ 8
-  pub wanted : getD (wantedArea (planOf 256) (runOf ours 256 512 round .checked) ++ zeros (1024 - length (wantedArea (planOf 256) (runOf ours 256 512 round .checked)))) 0 0 ≡ 7
-
-pub round-computed : Round
-unfolding chunkBlocks captureOf captureAnswered controllerCaptured captureAnswer final collected run happen happens hears begun setupOf setupAnswer holds stepOf decideOf refusalOf validState withinBy fitsRoom completionFits expectedOf lookOf lookBy seenOf checkOf faultOf lastOk sameLast generationOf moveOf judgeBy testsOf firstOrder matchOrder laterOrder turnBy turnOf moved awaitedOf wordsBy builtOf taken phaseAt copyAfter touched putAt commandOf answered commandAnswer agreesWith storeOk controllerOk identityOk greatestOf fieldBad lastAfter candidateOk sizeOf blocksOf topOf trimmedTo trimOf before afterwards sentOf pageOf pageBytes windowOf headerOf hostFields controllerFields fieldsFor hostCaptured ownOf actOf capturesOf dropsOf quiet wantedArea
-round-computed = record { said-is = refl; begins = refl; goes-on = refl; wanted = refl }

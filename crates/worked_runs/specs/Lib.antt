@@ -1,4 +1,5 @@
 pub mod Scene
 pub mod Lazy
 pub mod Computed
+pub mod Many
 pub mod Refuted

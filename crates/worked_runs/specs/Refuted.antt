@@ -4,11 +4,12 @@
 use Prim.Native.Nat.{ℕ, _-_, _<_}
 use mathlib.Core.Path.{_≡_, refl, sym, ap, _∙_}
 use mathlib.Core.List.{List, [], _++_}
-use mathlib.Core.Bool.{Bool, false}
+use mathlib.Core.Bool.{Bool, true, false}
 use native.Mathlib.Omega.{arith}
 use lib.ListN.{length, getD, replicate}
 use Rattle.choices.specs.Tests.{holds}
 use Rattle.copies.specs.Parts.{zeros}
+use Rattle.answers.specs.Answers.{success}
 use Rattle.pages.specs.Pages.{lastOk, greatestOf}
 use Rattle.records.specs.Records.{identityOk, storeOk, controllerOk, agreesWith}
 use Rattle.records.specs.Back.{Typed, agreed-typed}
@@ -28,7 +29,8 @@ use Rattle.demand3.specs.Shown.{showsFor, area-long}
 use Rattle.demand3.specs.Demand3.{Asked, TrueEnding, succeeded-by, room-short, gone, never-there, Demand3, final}
 use Rattle.worked_runs.specs.Scene.{drive, hostDrive, smallDrive, lentOf, planOf, hostPlan, smallPlan, stale}
 use Rattle.worked_runs.specs.Lazy.{stopsWith, neverStops, readsOnce, comparesNothing, comparesGenerations, fakesTheRest, inventsItsCount}
-use Rattle.worked_runs.specs.Computed.{runOf, undisturbed, disturbed, round, hostDisturbed, hostRun, smallRun, two, dropFirst, dropLast, Came, endsWith, old, new, mixed, computed, round-computed}
+use Rattle.worked_runs.specs.Computed.{runOf, undisturbed, disturbed, late, hostDisturbed, hostRun, smallRun, two, dropFirst, dropLast, Came, endsWith, old, new, mixed, computed}
+use Rattle.worked_runs.specs.Many.{soak, round, spread, stitched, round-came, round-most, spread-came, spread-most}
 
 -- ---- what is asked for
 
@@ -40,9 +42,9 @@ typed = agreed-typed (drive .own) 0 1024 refl (record { host-four = refl; host-r
 abbrev pub Meant : Collector → List (Turn (controllerSource 8)) → ℕ → Type 0
 Meant c ts k = Asked c (planOf 2) (stale 1024) drive (lentOf 512) ts k
 
--- what is promised of it
-abbrev pub Promised : Collector → List (Turn (controllerSource 8)) → ℕ → Type 0
-Promised c ts k = Demand3 c (planOf 2) (stale 1024) drive (lentOf 512) ts k
+-- and it breaks what is promised, whatever is to be said of newer captures
+abbrev pub Breaks : Collector → List (Turn (controllerSource 8)) → ℕ → Type 0
+Breaks c ts k = (newer : Bool) → Demand3 c (planOf 2) (stale 1024) drive (lentOf 512) ts k newer → ⊥
 
 meant : (c : Collector) (ts : List (Turn (controllerSource 8))) (k : ℕ) {said : Next} {copy area : List ℕ} {sent chunks : ℕ} → k < 2
     → Came (planOf 2) (runOf c 2 512 ts) said copy area k 0 sent chunks → Meant c ts k
@@ -60,6 +62,13 @@ pub ours-disturbed : Meant ours (disturbed 5) 1
 ours-disturbed =
     let x = computed .ours-disturbed in
     (meant ours (disturbed 5) 1 (omega arith) x, x .said-is, x .copy-is, ap (mostCommands (planOf 2) 1) (x .chunks-are))
+
+-- On 08h, with a capture after the last check: the copy is the page before it, a newer capture is told, and it is none of the captures in an attempt.
+pub ours-late : Meant ours late 1
+    × (runOf ours 2 512 late .said ≡ endsWith (Success true) 5)
+    × (runOf ours 2 512 late .copy ≡ old)
+    × (runOf ours 2 512 late .counts .mostInAttempt ≡ 0)
+ours-late = let x = computed .ours-late in (meant ours late 1 (omega arith) x, x .said-is, x .copy-is, computed .late-most)
 
 host-typed : Typed (hostDrive .own)
 unfolding agreesWith storeOk controllerOk identityOk greatestOf lastOk holds
@@ -83,100 +92,108 @@ small-typed : Typed (smallDrive two .own)
 unfolding agreesWith storeOk controllerOk identityOk greatestOf lastOk holds
 small-typed = agreed-typed (smallDrive two .own) 1024 0 refl (record { host-four = refl; host-reason = refl; controller-four = refl; controller-reason = refl }) (omega arith) (omega arith)
 
--- what is asked for of a run of any collector on the small drive's area 3 with two attempts and k = 1, and what is promised of it
-abbrev pub SmallMeant : Collector → ℕ → List (Turn (controllerSource 7)) → Type 0
-SmallMeant c chunk ts = Asked c (smallPlan 3 chunk 2) (stale 1024) (smallDrive two) (lentOf 1024) ts 1
+-- what is asked for of a run of any collector on the small drive's area 3, with so many attempts and this k, and that it breaks what is promised
+abbrev pub SmallMeant : Collector → (attempts k : ℕ) → List (Turn (controllerSource 7)) → Type 0
+SmallMeant c attempts k ts = Asked c (smallPlan 3 1 attempts) (stale 1024) (smallDrive two) (lentOf 1024) ts k
 
-abbrev pub SmallPromised : Collector → ℕ → List (Turn (controllerSource 7)) → Type 0
-SmallPromised c chunk ts = Demand3 c (smallPlan 3 chunk 2) (stale 1024) (smallDrive two) (lentOf 1024) ts 1
+abbrev pub SmallBreaks : Collector → (attempts k : ℕ) → List (Turn (controllerSource 7)) → Type 0
+SmallBreaks c attempts k ts = (newer : Bool) → Demand3 c (smallPlan 3 1 attempts) (stale 1024) (smallDrive two) (lentOf 1024) ts k newer → ⊥
 
-small-meant : (c : Collector) (ts : List (Turn (controllerSource 7))) {said : Next} {copy area : List ℕ} {sent chunks : ℕ}
-    → Came (smallPlan 3 1 2) (smallRun c 3 1 2 two ts) said copy area 1 0 sent chunks → SmallMeant c 1 ts
-unfolding setupAnswer holds
-small-meant c ts x = record { taken = refl; caps = refl; room = refl; typed = small-typed; attempts = omega arith; changes = omega (arith, x .changes-are); spared = x .refused-are }
+small-meant : (c : Collector) (attempts k : ℕ) (ts : List (Turn (controllerSource 7))) {said : Next} {copy area : List ℕ} {sent chunks : ℕ}
+    → setupAnswer (smallPlan 3 1 attempts) ≡ success → k < attempts
+    → Came (smallPlan 3 1 attempts) (smallRun c 3 1 attempts two ts) said copy area k 0 sent chunks → SmallMeant c attempts k ts
+small-meant c attempts k ts e l x = record { taken = e; caps = refl; room = refl; typed = small-typed; attempts = l; changes = omega (arith, x .changes-are); spared = x .refused-are }
 
 -- On 07h, a firmware commit before the first of two chunks empties the page: the second chunk is refused, the closing header has the generation of the
 -- first header and other last blocks, which is no 12 but the next attempt, and that ends well with no blocks after five commands; so does one after the last
 -- chunk, which throws a whole copy away.
-pub ours-dropped : SmallMeant ours 1 (dropFirst 5)
+pub ours-dropped : SmallMeant ours 2 1 (dropFirst 5)
     × (smallRun ours 3 1 2 two (dropFirst 5) .said ≡ endsWith (Success false) 5) × (smallRun ours 3 1 2 two (dropFirst 5) .copy ≡ zeros 1024)
-    × SmallMeant ours 1 (dropLast 3)
+    × (smallRun ours 3 1 2 two (dropFirst 5) .counts .mostInAttempt ≡ 0)
+    × SmallMeant ours 2 1 (dropLast 3)
     × (smallRun ours 3 1 2 two (dropLast 3) .said ≡ endsWith (Success false) 5) × (smallRun ours 3 1 2 two (dropLast 3) .copy ≡ zeros 1024)
+unfolding setupAnswer holds
 ours-dropped =
     let x = computed .dropped-early in
     let y = computed .dropped-late in
-    (small-meant ours (dropFirst 5) x, x .said-is, x .copy-is, small-meant ours (dropLast 3) y, y .said-is, y .copy-is)
+    (small-meant ours 2 1 (dropFirst 5) refl (omega arith) x, x .said-is, x .copy-is, computed .dropped-most, small-meant ours 2 1 (dropLast 3) refl (omega arith) y, y .said-is, y .copy-is)
+
+-- On 07h, 300 captures of the same areas, 150 in each of the first two attempts: the third one ends well after ten commands with the page as it is then.
+pub ours-spread : SmallMeant ours 301 300 spread × (soak spread .counts .mostInAttempt ≡ 150) × (soak spread .said ≡ endsWith (Success false) 10) × (soak spread .copy ≡ new)
+unfolding setupAnswer holds
+ours-spread = let x = spread-came in (small-meant ours 301 300 spread refl (omega arith) x, spread-most, x .said-is, x .copy-is)
 
 -- ---- lazy collectors
 
 -- a success whose copy has another byte than the area breaks the promise
 wrong-copy : (c : Collector) (p : Plan) (w : World) (bytes : ℕ) (ts : List (Turn (controllerSource (p .page)))) (k i n : ℕ) {t : Bool} {copy area : List ℕ} {sent chunks changes refused : ℕ}
     → Came p (final c p (stale (p .room)) w (lentOf bytes) ts) (endsWith (Success t) n) copy area changes refused sent chunks
-    → (getD copy i 0 ≡ getD (area ++ zeros (p .room - length area)) i 0 → ⊥) → Demand3 c p (stale (p .room)) w (lentOf bytes) ts k → ⊥
-wrong-copy c p w bytes ts k i n {t = t} x differs d = by (d .ended (record { ending = Success t; count = n }) (x .said-is))
+    → (getD copy i 0 ≡ getD (area ++ zeros (p .room - length area)) i 0 → ⊥) → (newer : Bool) → Demand3 c p (stale (p .room)) w (lentOf bytes) ts k newer → ⊥
+wrong-copy c p w bytes ts k i n {t = t} x differs newer d = by (d .ended (record { ending = Success t; count = n }) (x .said-is))
   where
-    by : TrueEnding c p (stale (p .room)) w (lentOf bytes) ts (record { ending = Success t; count = n }) (final c p (stale (p .room)) w (lentOf bytes) ts .checked) → ⊥
+    by : TrueEnding c p (stale (p .room)) w (lentOf bytes) ts newer (record { ending = Success t; count = n }) (final c p (stale (p .room)) w (lentOf bytes) ts .checked) → ⊥
     by (succeeded-by a q l) = differs (ap (λ (y : List ℕ). getD y i 0) (sym (x .copy-is) ∙ q ∙ ap (λ (y : List ℕ). y ++ zeros (p .room - length y)) (x .area-is)))
     by (room-short a q l) = absurd (omega arith)
     by (gone a q l m o) = absurd (omega arith)
     by (never-there a q l m o) = absurd (omega arith)
 
 -- One that always stops, whatever it says.
-pub stops-refuted : (e : Ending) → Meant (stopsWith e) undisturbed 0 × (Promised (stopsWith e) undisturbed 0 → ⊥)
+pub stops-refuted : (e : Ending) → Meant (stopsWith e) undisturbed 0 × Breaks (stopsWith e) undisturbed 0
 unfolding showsFor
 stops-refuted e =
     let x = computed .stopped e in
-    (meant (stopsWith e) undisturbed 0 (omega arith) x, λ d. by x (d .ended (record { ending = e; count = 1 }) (x .said-is)))
+    (meant (stopsWith e) undisturbed 0 (omega arith) x, λ newer d. by newer x (d .ended (record { ending = e; count = 1 }) (x .said-is)))
   where
-    by : Came (planOf 2) (runOf (stopsWith e) 2 512 undisturbed) (endsWith e 1) (zeros 1024) old 0 0 1 2
-        → TrueEnding (stopsWith e) (planOf 2) (stale 1024) drive (lentOf 512) undisturbed (record { ending = e; count = 1 }) (runOf (stopsWith e) 2 512 undisturbed .checked) → ⊥
-    by x (succeeded-by a q l) =
+    by : (newer : Bool) → Came (planOf 2) (runOf (stopsWith e) 2 512 undisturbed) (endsWith e 1) (zeros 1024) old 0 0 1 2
+        → TrueEnding (stopsWith e) (planOf 2) (stale 1024) drive (lentOf 512) undisturbed newer (record { ending = e; count = 1 }) (runOf (stopsWith e) 2 512 undisturbed .checked) → ⊥
+    by newer x (succeeded-by a q l) =
         let z : _≡_ {A = ℕ} 0 5 = ap (λ (y : List ℕ). getD y 0 0) (sym (x .copy-is) ∙ q ∙ ap (λ (y : List ℕ). y ++ zeros (1024 - length y)) (x .area-is)) in
         absurd (omega arith)
-    by x (room-short a q l) =
+    by newer x (room-short a q l) =
         let n = sym (area-long (planOf 2) (runOf (stopsWith e) 2 512 undisturbed .checked)) ∙ ap length (x .area-is) in
         absurd (omega (arith, l, n))
-    by x (gone a q l m o) = absurd (omega (arith, o, x .sent-are))
-    by x (never-there a q l m o) = absurd (omega (arith, m, computed .stopped-live e))
+    by newer x (gone a q l m o) = absurd (omega (arith, o, x .sent-are))
+    by newer x (never-there a q l m o) = absurd (omega (arith, m, computed .stopped-live e))
 
 -- One that never stops.
-pub never-stops-refuted : Meant neverStops undisturbed 0 × (Promised neverStops undisturbed 0 → ⊥)
+pub never-stops-refuted : Meant neverStops undisturbed 0 × Breaks neverStops undisturbed 0
 never-stops-refuted =
     let x = computed .going-on in
-    (meant neverStops undisturbed 0 (omega arith) x, λ d. let f = d .ends (omega (arith, x .chunks-are)) in clashes (sym (x .said-is) ∙ f .said))
+    (meant neverStops undisturbed 0 (omega arith) x, λ newer d. let f = d .ends (omega (arith, x .chunks-are)) in clashes (sym (x .said-is) ∙ f .said))
   where
     clashes : {w : _} {e : Finish} → Send w ≡ Ends e → ⊥
     clashes q = let z : _≡_ {A = ℕ} 0 1 = cc in omega arith
 
 -- One that reads the generation once: its copy is stitched from two captures.
-pub reads-once-refuted : Meant readsOnce (disturbed 5) 1 × (runOf readsOnce 2 512 (disturbed 5) .copy ≡ mixed) × (Promised readsOnce (disturbed 5) 1 → ⊥)
+pub reads-once-refuted : Meant readsOnce (disturbed 5) 1 × (runOf readsOnce 2 512 (disturbed 5) .copy ≡ mixed) × Breaks readsOnce (disturbed 5) 1
 reads-once-refuted =
     let x = computed .read-once in
     (meant readsOnce (disturbed 5) 1 (omega arith) x, x .copy-is, wrong-copy readsOnce (planOf 2) drive 512 (disturbed 5) 1 512 3 x (λ z. omega arith))
 
 -- One that reads it again and compares nothing.
-pub compares-nothing-refuted : Meant comparesNothing (disturbed 5) 1 × (runOf comparesNothing 2 512 (disturbed 5) .copy ≡ mixed) × (Promised comparesNothing (disturbed 5) 1 → ⊥)
+pub compares-nothing-refuted : Meant comparesNothing (disturbed 5) 1 × (runOf comparesNothing 2 512 (disturbed 5) .copy ≡ mixed) × Breaks comparesNothing (disturbed 5) 1
 compares-nothing-refuted =
     let x = computed .compared-nothing in
     (meant comparesNothing (disturbed 5) 1 (omega arith) x, x .copy-is, wrong-copy comparesNothing (planOf 2) drive 512 (disturbed 5) 1 0 5 x (λ z. omega arith))
 
 -- One that compares generations alone: its copy is of a page that was dropped.
-pub compares-generations-refuted : SmallMeant comparesGenerations 1 (dropLast 3) × (SmallPromised comparesGenerations 1 (dropLast 3) → ⊥)
+pub compares-generations-refuted : SmallMeant comparesGenerations 2 1 (dropLast 3) × SmallBreaks comparesGenerations 2 1 (dropLast 3)
+unfolding setupAnswer holds
 compares-generations-refuted =
     let x = computed .compared-generations in
-    (small-meant comparesGenerations (dropLast 3) x, wrong-copy comparesGenerations (smallPlan 3 1 2) (smallDrive two) 1024 (dropLast 3) 1 0 4 x (λ z. omega arith))
+    (small-meant comparesGenerations 2 1 (dropLast 3) refl (omega arith) x, wrong-copy comparesGenerations (smallPlan 3 1 2) (smallDrive two) 1024 (dropLast 3) 1 0 4 x (λ z. omega arith))
 
 -- One that does its first chunk and fakes the rest.
-pub fakes-refuted : Meant fakesTheRest undisturbed 0 × (Promised fakesTheRest undisturbed 0 → ⊥)
+pub fakes-refuted : Meant fakesTheRest undisturbed 0 × Breaks fakesTheRest undisturbed 0
 fakes-refuted =
     let x = computed .faked in
     (meant fakesTheRest undisturbed 0 (omega arith) x, wrong-copy fakesTheRest (planOf 2) drive 512 undisturbed 0 512 5 x (λ z. omega arith))
 
 -- One that invents its count.
-pub invents-refuted : Meant inventsItsCount undisturbed 0 × (Promised inventsItsCount undisturbed 0 → ⊥)
+pub invents-refuted : Meant inventsItsCount undisturbed 0 × Breaks inventsItsCount undisturbed 0
 invents-refuted =
     let x = computed .invented in
-    (meant inventsItsCount undisturbed 0 (omega arith) x, λ d. omega (arith, d .says (record { ending = Success false; count = 6 }) (x .said-is), x .sent-are))
+    (meant inventsItsCount undisturbed 0 (omega arith) x, λ newer d. omega (arith, d .says (record { ending = Success false; count = 6 }) (x .said-is), x .sent-are))
 
 -- ---- premises
 
@@ -192,12 +209,15 @@ attempts-needed-for-drops = let x = computed .used-up-by-a-drop in (x .changes-a
 pub buffers-needed : (runOf ours 2 511 [] .counts .lentRefusals ≡ 1) × (runOf ours 2 511 [] .said ≡ endsWith BrokeItsWord 1)
 buffers-needed = let x = computed .short in (x .refused-are, x .said-is)
 
--- 256 captures in an attempt, which 256 attempts do not allow for, mix two copies.
-pub few-needed : Demand3 ours (planOf 256) (stale 1024) drive (lentOf 512) round 256 → ⊥
-few-needed d = by (d .ended (record { ending = Success false; count = 5 }) (round-computed .said-is))
-  where
-    by : TrueEnding ours (planOf 256) (stale 1024) drive (lentOf 512) round (record { ending = Success false; count = 5 }) (runOf ours 256 512 round .checked) → ⊥
-    by (succeeded-by a q l) = omega (arith, sym (round-computed .begins) ∙ ap (λ (y : List ℕ). getD y 0 0) q ∙ round-computed .wanted)
-    by (room-short a q l) = absurd (omega arith)
-    by (gone a q l m o) = absurd (omega arith)
-    by (never-there a q l m o) = absurd (omega arith)
+-- 256 captures of the same areas in one attempt bring the generation round: with all else that is asked for the run ends well, with a copy of two captures.
+pub few-needed : SmallMeant ours 301 256 round × (soak round .counts .mostInAttempt ≡ 256) × (soak round .said ≡ endsWith (Success false) 4) × (soak round .copy ≡ stitched)
+    × SmallBreaks ours 301 256 round
+unfolding setupAnswer holds
+few-needed =
+    let x = round-came in (
+      small-meant ours 301 256 round refl (omega arith) x,
+      round-most,
+      x .said-is,
+      x .copy-is,
+      wrong-copy ours (smallPlan 3 1 301) (smallDrive two) 1024 round 256 0 4 x (λ z. omega arith),
+    )

@@ -37,16 +37,20 @@ hostDrive = world (record {
   controller = record { last = zeros 4; generation = 0; tcda = 0; notice = false; reason = zeros 128 };
 }) (replicate 2560 1) []
 
--- 07h has these last blocks and two blocks of a store, of ones and of twos, and 08h none
-abbrev pub smallDrive : List ℕ → World
-smallDrive last = world (record {
+-- 07h has these last blocks, generation, reason and store, and 08h none
+abbrev pub smallDriveOf : (last : List ℕ) (generation : ℕ) (reason store : List ℕ) → World
+smallDriveOf last generation reason store = world (record {
   caps = caps;
   identity = record { oui = 0; hostscope = 1; controllerscope = 1 };
-  host = record { last = last; generation = 9; reason = replicate 128 4 };
+  host = record { last = last; generation = generation; reason = reason };
   controller = record { last = zeros 4; generation = 0; tcda = 0; notice = false; reason = zeros 128 };
-}) (blockOf 1 ++ blockOf 2) []
+}) store []
 
--- what a capture of 08h takes: two blocks, of sevens and of eights
+-- with a store of two blocks, of ones and of twos
+abbrev pub smallDrive : List ℕ → World
+smallDrive last = smallDriveOf last 9 (replicate 128 4) (blockOf 1 ++ blockOf 2)
+
+-- what a capture takes: two blocks, of sevens and of eights
 abbrev pub newer : Candidate
 newer = candidateOf (2 ∷ 2 ∷ 2 ∷ 2 ∷ []) (blockOf 7 ++ blockOf 8) (zeros 128)
 

@@ -1,4 +1,4 @@
--- `test_edges::turns` ends: a run has no more than 16 commands.
+-- `test_edges::turns` ends: a run has no more than 200,000 commands.
 -- Assumes nothing.
 use Prim.Native.Nat.{_≤_, _-_}
 use borrow.Author.Needs.{needs}
@@ -6,10 +6,10 @@ use Rattle.test_edges.proofs.turns.Statement.{statement}
 use Rattle.test_edges.proofs.turns.Tie as tie
 
 abbrev Inv-loop : tie.InvT-loop
-Inv-loop case store₀ copy₀ want₀ b₀ at₀ store copy want b at = at ≤ 16
+Inv-loop case store₀ copy₀ want₀ b₀ at₀ store copy want b at = at ≤ 200000
 
 abbrev μ-loop : tie.MeasureT-loop
-μ-loop case store₀ copy₀ want₀ b₀ at₀ store copy want b at = 16 - at
+μ-loop case store₀ copy₀ want₀ b₀ at₀ store copy want b at = 200000 - at
 
 loop-holds : tie.Need-loop-holds Inv-loop μ-loop
 loop-holds c = search needs
