@@ -35,7 +35,7 @@ enum {
     BUMBAZEEL_LAST_OF_AREA_3 = 65535,   /* the greatest last block of areas 1 to 3 */
     BUMBAZEEL_LAST_OF_AREA_4 = 1048576, /* and of area 4 */
     BUMBAZEEL_MOST_BLOCKS = 8192,       /* blocks of one command */
-    BUMBAZEEL_MOST_ATTEMPTS = 256,
+    BUMBAZEEL_MOST_ATTEMPTS = 65535,    /* of a collection */
     BUMBAZEEL_MOST_ROOM = 536870912 /* bytes of a copy */
 };
 
@@ -97,8 +97,8 @@ enum {
 
 /* A collection's state. 56 bytes. Lend it back as it was given. One that is damaged (`phase` over 5, `create` over 1, `caps` over 31, `zero`
  * not zero, or `at` not zero in a phase other than 1) gets 13. One that has ended (`phase` 5) gets 14, whatever its other numbers are. Any
- * other gets 13 where its numbers break setup's limits, `attempt` is not 1 to `attempts`, `count` is over 2 + `attempts` * 1,048,577, its area
- * does not fit `room`, or its chunk starts outside the area. */
+ * other gets 13 where its numbers break setup's limits, `attempt` is not 1 to `attempts`, `count` is over 2 + `attempts` * 1,048,577 (which is up
+ * to 68,718,493,697 and takes 64 bits), its area does not fit `room`, or its chunk starts outside the area. */
 struct bumbazeel_state {
     uint8_t phase;      /*  0: what is awaited, one of those above */
     uint8_t page;       /*  1 */

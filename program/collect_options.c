@@ -31,7 +31,7 @@ static const char help[] = "usage: bumbazeel collect [OPTIONS] [DEVICE] OUTPUT\n
                            "  --output-dir FOLDER   a new file in FOLDER, named by serial, page and time\n"
                            "  --no-clobber          replace no file\n"
                            "  --blocks N            blocks a command, 1 to 8192 (128)\n"
-                           "  --attempts N          attempts if the page changes meanwhile, 1 to 256 (5)\n"
+                           "  --attempts N          attempts if the page changes meanwhile, 1 to 65535 (5)\n"
                            "  --room BYTES          the most that the area may take, a multiple of 512\n"
                            "                        (all that the area can have)\n"
                            "  -t, --timeout MS      the most milliseconds that a command may take\n"

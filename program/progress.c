@@ -10,7 +10,7 @@
 #include <time.h>
 #include <unistd.h>
 
-enum { BAR = 24, USUAL_COLUMNS = 80 };
+enum { BAR = 20, USUAL_COLUMNS = 80 }; /* beside the bar there is room for five digits of attempts, and four of MiB a second */
 static const double MIB = 1048576.0, MOMENT = 0.1; /* seconds */
 
 static bool shown;
@@ -49,7 +49,7 @@ void progress_show(const struct bumbazeel_state *state, uint32_t attempt, uint32
     double done = (double)(state->at - 1) * BLOCK, all = (double)state->last[state->area - 1] * BLOCK;
     int filled = (int)(BAR * done / all);
     char bar[2 * BAR + 4], text[160], rate[40] = "";
-    snprintf(bar, sizeof bar, "[%.*s%.*s] ", filled, "########################", BAR - filled, "........................");
+    snprintf(bar, sizeof bar, "[%.*s%.*s] ", filled, "####################", BAR - filled, "....................");
     if (time > start)
         snprintf(rate, sizeof rate, ", %.1f MiB/s", (double)moved / (time - start) / MIB);
     snprintf(text, sizeof text, "attempt %u of %u: %.1f of %.1f MiB%s", (unsigned)attempt, (unsigned)attempts, done / MIB, all / MIB, rate);

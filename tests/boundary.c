@@ -481,6 +481,41 @@ static void limits(void) {
     expect(bumbazeel_words(page, 0, 0, 1, last, blocks + 1, built) == BUMBAZEEL_BAD_SETUP);
 }
 
+/* The answer to a state in the last of so many attempts, with so many commands sent, whose header is refused: it ends, and tells the count, or
+ * it is 13 and nothing changes. */
+static uint8_t refused_header(uint32_t attempts, uint64_t count) {
+    struct bumbazeel_state state, before;
+    struct bumbazeel_next next;
+    uint8_t copy[BLOCK];
+    memset(copy, 0x55, sizeof copy);
+    expect(bumbazeel_setup(0x08, 0, 1, CAPS, 1, 1, sizeof copy, &state, &next) == BUMBAZEEL_SEND);
+    state.attempts = state.attempt = attempts;
+    state.count = count;
+    before = state;
+    if (bumbazeel_step(&state, 0, NULL, 0, copy, sizeof copy, &next) == BUMBAZEEL_ENDED)
+        expect(next.count == count && state.count == count && all(copy, sizeof copy, 0));
+    else
+        expect(!memcmp(&state, &before, sizeof state) && all(copy, sizeof copy, 0x55));
+    return next.answer;
+}
+
+/* Attempts are 1 to 65,535, for setup and in a state, and the commands that a state counts are at most 2 + attempts * 1,048,577. */
+static void attempts(void) {
+    static const uint32_t good[] = {1, 2, 255, 256, 257, 65534, 65535}, bad[] = {0, 65536, 65537, 0x1000000, 0xffffffff};
+    struct bumbazeel_state state;
+    struct bumbazeel_next next;
+    for (size_t i = 0; i < sizeof good / sizeof *good; i++) {
+        const uint64_t most = 2 + good[i] * (uint64_t)1048577;
+        expect(bumbazeel_setup(0x07, 0, 1, CAPS, 1, good[i], 0, &state, &next) == BUMBAZEEL_SEND && state.attempts == good[i]);
+        expect(refused_header(good[i], most) == BUMBAZEEL_BROKE_ITS_WORD && refused_header(good[i], most + 1) == BUMBAZEEL_BAD_SETUP);
+    }
+    for (size_t i = 0; i < sizeof bad / sizeof *bad; i++) {
+        expect(bumbazeel_setup(0x07, 0, 1, CAPS, 1, bad[i], 0, &state, &next) == BUMBAZEEL_REFUSED && next.answer == BUMBAZEEL_BAD_SETUP);
+        expect(refused_header(bad[i], 1) == BUMBAZEEL_BAD_SETUP);
+    }
+    expect(refused_header(65535, 68718493697u) == BUMBAZEEL_BROKE_ITS_WORD && refused_header(65535, 68718493698u) == BUMBAZEEL_BAD_SETUP);
+}
+
 static void refused_setups(void) {
     struct bumbazeel_state state;
     struct bumbazeel_next next;
@@ -549,6 +584,7 @@ int main(void) {
     large();
     flags();
     limits();
+    attempts();
     refused_setups();
     refused_steps();
     if (failures)

@@ -134,6 +134,22 @@ def dropped_run(chunk, dropped_after):
     return sent, refused, then.kind, then.answer, then.count, bytes(copy)
 
 
+def limited(attempts, count=1):
+    """Setup's answer to so many attempts, and a step's to a state in the last of them with so many commands sent, whose header is refused."""
+    setup(8, 0, 4, EVERY_CAP, 3, attempts, 0, byref(state), byref(then))
+    by_setup = then.answer
+    setup(8, 0, 4, EVERY_CAP, 3, 1, 0, byref(state), byref(then))
+    state.attempts = state.attempt = attempts
+    state.count = count
+    step(byref(state), 0, None, 0, None, 0, byref(then))
+    return by_setup, then.answer, then.count
+
+
+same("65,535 attempts", (0, 12, 1), limited(65535))
+same("the most commands of 65,535 attempts", (0, 12, 68718493697), limited(65535, 68718493697))
+same("one more", (0, 13, 0), limited(65535, 68718493698))
+same("65,536 attempts", (13, 13, 0), limited(65536))
+same("no attempts", (13, 13, 0), limited(0))
 same("H D c1 c2! h h", (5, 1, 1, 0, 5, bytes(2 * BLOCK)), dropped_run(1, 1))
 same("H D c1 h h", (4, 0, 1, 0, 4, bytes(2 * BLOCK)), dropped_run(2, 1))
 same("H c1 c2 D h h", (5, 0, 1, 0, 5, bytes(2 * BLOCK)), dropped_run(1, 3))

@@ -475,6 +475,11 @@ static void drop(void) {
 static bool untouched; /* the state comes from setup, and only steps have changed it */
 static uint64_t sent;  /* commands, since setup */
 
+static bool attempts_are_good(uint32_t attempts) { return attempts >= 1 && attempts <= BUMBAZEEL_MOST_ATTEMPTS; }
+
+/* Whether a state's commands are no more than its attempts allow, which takes 64 bits. */
+static bool count_is_good(const struct bumbazeel_state *s) { return s->count <= 2 + s->attempts * MOST_ATTEMPT_COMMANDS; }
+
 /* The next command is the one that the state awaits. */
 static void command_is_awaited(void) {
     const struct bumbazeel_state *s = THE_STATE;
@@ -486,7 +491,7 @@ static void command_is_awaited(void) {
     must(!bumbazeel_words(s->page, creates, creates && s->caps & BUMBAZEEL_MCDAS ? s->area : 0, s->phase != BUMBAZEEL_AWAITS_ACKNOWLEDGEMENT, s->at, blocks,
                           want));
     must(!memcmp(next->words, want, sizeof want) && !next->answer && !next->newer && !next->count);
-    must(!untouched || (s->count == sent && sent <= 2 + s->attempts * MOST_ATTEMPT_COMMANDS));
+    must(!untouched || (s->count == sent && count_is_good(s)));
 }
 
 static void setup(void) {
@@ -498,6 +503,7 @@ static void setup(void) {
     lend(NEXT, sizeof(struct bumbazeel_next), 0xEE);
     uint8_t kind = bumbazeel_setup(page, flags >> 4 & 1, area, caps, chunk, attempts, room, THE_STATE, THE_NEXT);
     must(kind == THE_NEXT->kind && !THE_NEXT->zero && zeros(THE_STATE->zero, 2));
+    must(attempts_are_good(attempts) || THE_NEXT->answer == BUMBAZEEL_BAD_SETUP);
     accept_all(STATE);
     accept_all(NEXT);
     slots_are_as_they_must();
@@ -518,6 +524,7 @@ static void step_was_refused(const struct bumbazeel_state *before) {
     must(next->answer >= BUMBAZEEL_BAD_SETUP && next->answer <= BUMBAZEEL_DOES_NOT_FIT);
     must(zeros(next->words, 20) && !next->newer && !next->count);
     must(!untouched || next->answer == (before->phase == BUMBAZEEL_AWAITS_NOTHING ? BUMBAZEEL_ALREADY_ENDED : BUMBAZEEL_DOES_NOT_FIT));
+    must(next->answer != BUMBAZEEL_DOES_NOT_FIT || (attempts_are_good(before->attempts) && count_is_good(before)));
 }
 
 /* Where a header has its page's own generation. */
@@ -580,6 +587,7 @@ static void step(uint8_t ok) {
         step_was_refused(&before);
     } else {
         must(before.phase < BUMBAZEEL_AWAITS_NOTHING && (before.phase != BUMBAZEEL_AWAITS_CHUNK || kind == BUMBAZEEL_SEND));
+        must(attempts_are_good(before.attempts) && count_is_good(&before));
         if (before.phase == BUMBAZEEL_AWAITS_CHUNK && ok)
             memcpy((uint8_t *)image(COPY) + (size_t)(before.at - 1) * BLOCK, slots[DATA].lent, slots[DATA].bytes);
         if (ok && (before.phase == BUMBAZEEL_AWAITS_CLOSING_HEADER || before.phase == BUMBAZEEL_AWAITS_CLOSING_HEADER_AFTER_REFUSAL))

@@ -1,11 +1,11 @@
 //! The host side: header check, command builder and the collection.
-//! Written from document 01, section "Host: header check and collection", and document 02, Q-1.
+//! Written from document 01, section "Host: header check and collection", and document 02, Q-1 and Q-14.
 
 use crate::rules::*;
 
 /// The greatest number of blocks in a command.
 pub const CHUNK_LIMIT: u32 = 8_192;
-pub const ATTEMPTS_LIMIT: u32 = 256;
+pub const ATTEMPTS_LIMIT: u32 = 65_535;
 /// The greatest number of bytes of a copy.
 pub const ROOM_LIMIT: u64 = 536_870_912;
 

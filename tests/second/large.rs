@@ -253,8 +253,8 @@ fn drop_limit(regions: &Regions, limit: &Limit) -> Same<()> {
 /// The last blocks of the largest area 4 into the largest copy.
 fn far_chunk(regions: &mut Regions) -> Same<()> {
     let room = AREA_4_BYTES as u64;
-    let setup = Setup { page: HOST_PAGE, create: 0, area: 4, caps: ALL, chunk: 5, attempts: 256, room };
-    let mut state = header_state(setup, 1, 256, 7, [0, 0, 1, AREA_4_LIMIT]);
+    let setup = Setup { page: HOST_PAGE, create: 0, area: 4, caps: ALL, chunk: 5, attempts: 65_535, room };
+    let mut state = header_state(setup, 1, 65_535, 7, [0, 0, 1, AREA_4_LIMIT]);
     put_u32(&mut state, 20, AREA_4_LIMIT - 2);
     let data = [0x33; 3 * BLOCK];
     let mut lent_state = Lent::new(&state, 0, false);

@@ -38,7 +38,7 @@ struct Kind {
     case: Case,
 }
 
-const KINDS: [Kind; 39] = [
+const KINDS: [Kind; 41] = [
     Kind { name: "01: rows of a page", share: 0, case: outside::page_rows },
     Kind { name: "01: rows of trimming", share: 0, case: outside::trimming_rows },
     Kind { name: "01: rows and listing", share: 0, case: outside::collection_rows },
@@ -53,6 +53,8 @@ const KINDS: [Kind; 39] = [
     Kind { name: "004: no extended data", share: 0, case: outside::without_extended_data },
     Kind { name: "004: identifiers", share: 0, case: outside::identifier_table },
     Kind { name: "02: a commit in a run", share: 0, case: outside::commit_in_a_run },
+    Kind { name: "02: attempts", share: 0, case: outside::attempts_table },
+    Kind { name: "02: attempts used up", share: 0, case: outside::attempts_used_up },
     Kind { name: "classes", share: 0, case: singles::classes },
     Kind { name: "statuses", share: 0, case: singles::statuses },
     Kind { name: "drops and store lengths", share: 0, case: singles::store_lengths },

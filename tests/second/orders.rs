@@ -190,7 +190,7 @@ pub fn setups(pair: &mut Pair, random: &mut Random) -> Same<()> {
             0 => setup.page = random.pick(&[6, 9]),
             1 => (setup.page, setup.create) = (CONTROLLER_PAGE, 1),
             2 => setup.chunk = random.pick(&[0, 8_193]),
-            3 => setup.attempts = random.pick(&[0, 257]),
+            3 => setup.attempts = random.pick(&[0, 65_536]),
             4 => setup.room = random.pick(&[1, 513, 536_871_424]),
             5 => setup.caps &= !EXTENDED,
             6 => setup.caps &= !TELEMETRY,

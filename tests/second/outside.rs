@@ -1,8 +1,9 @@
 //! Vectors from outside: the rows and the listing of document 01, the stories of document 02, and tables of documents 000 to 004, typed in
 //! from there. Each check holds the pair to the table, so it is an opinion that neither the library nor the second opinion had a hand in.
 
-use crate::boundary::{get_u32, get_u64, Setup, ENDED, RECORD_BYTES, SEND};
+use crate::boundary::{get_u32, get_u64, put_u64, Setup, ENDED, RECORD_BYTES, REFUSED, SEND};
 use crate::generate::{self, asked_bytes, at, DA4S, ETDAS, EXTENDED, MCDAS, TELEMETRY};
+use crate::orders::header_state;
 use crate::pair::{hex, Difference, Offer, Pair, Same, World};
 use crate::random::Random;
 use crate::rules::{LastBlocks, Words, BLOCK, REASON};
@@ -95,7 +96,7 @@ fn collect(
     let (mut state, mut next) = pair.setup(setup)?;
     let mut copy = vec![0xDD; setup.room as usize];
     let mut sent = Vec::new();
-    while next[0] == SEND && sent.len() < 50 {
+    while next[0] == SEND && sent.len() < 70_000 {
         let words = words_of(&next);
         sent.push(words);
         let mut buffer = vec![0; asked_bytes(setup.caps, words) as usize];
@@ -557,4 +558,57 @@ fn half_copy(pair: &mut Pair, opening: &[u8], first_half: &[u8], closing: &[u8])
     let next = pair.step(&mut state, 1, closing, &mut copy)?;
     hold(next[0] == ENDED && next[1] == 0 && get_u64(&next, 24) == 5, "the next attempt ends with 0 after 5 commands")?;
     hold(copy == [0; 4 * BLOCK], "and its copy has no blocks")
+}
+
+/// Document 02, Q-14: "Attempts may now be set up to 65,535", "13 from 65,536 attempts". A state's numbers keep setup's limits, and its
+/// command count is 2 + attempts·1,048,577 at most, which takes more than 32 bits.
+pub fn attempts_table(pair: &mut Pair, _: &mut Random) -> Same<()> {
+    let taken = [1, 2, 255, 256, 257, 4_095, 4_096, 65_534, 65_535].map(|attempts| (attempts, true));
+    let refused = [0, 65_536, 65_537, 1 << 24, u32::MAX].map(|attempts| (attempts, false));
+    for (attempts, taken) in taken.into_iter().chain(refused) {
+        let caps = EXTENDED | TELEMETRY;
+        let setup = Setup { page: 7, create: 0, area: 3, caps, chunk: 1, attempts, room: 512 };
+        let (_, next) = pair.setup(setup)?;
+        let due = if taken { (SEND, 0) } else { (REFUSED, 13) };
+        hold((next[0], next[1]) == due, &format!("setup of {attempts} attempts: {due:?}"))?;
+        let most = 2 + attempts as u64 * 1_048_577;
+        for (count, taken) in [(most, taken), (most + 1, false)] {
+            // The last attempt's closing header is refused.
+            let mut state = header_state(setup, 2, attempts, 9, [0, 0, 1, 0]);
+            put_u64(&mut state, 32, count);
+            let next = pair.step(&mut state, 0, &[], &mut vec![0xDD; 512])?;
+            let due = if taken { (ENDED, 12, count) } else { (REFUSED, 13, 0) };
+            let row = format!("a state with {attempts} attempts and {count} commands: {due:?}");
+            hold((next[0], next[1], get_u64(&next, 24)) == due, &row)?;
+        }
+    }
+    Ok(())
+}
+
+/// A capture on the page of these last blocks.
+fn capture_on(pair: &mut Pair, world: &mut World, page: u8, last: LastBlocks) -> Same<()> {
+    let answer = match page {
+        7 => pair.command(world, &candidate(last), [0x007F_8107, 0, 0, 0, 0], &mut vec![0; BLOCK])?.0,
+        _ => pair.capture(world, &candidate(last))?,
+    };
+    hold(answer == 0, "a capture is taken")
+}
+
+/// All of 65,535 attempts on a page without blocks, where an attempt is its closing header: with a capture in each they are used up; without
+/// one in the last they are enough, and the commands are demand 3's bound 1 + (k + 1)(C + 1), k being 65,534 and C 0.
+pub fn attempts_used_up(pair: &mut Pair, _: &mut Random) -> Same<()> {
+    let caps = EXTENDED | TELEMETRY;
+    let setup = Setup { page: 7, create: 0, area: 3, caps, chunk: 1, attempts: 65_535, room: 0 };
+    for (captures, answer) in [(65_535, 9), (65_534, 0)] {
+        let mut world = World { host_store: Vec::new(), controller_store: Vec::new(), ..drive(caps, [0; 4]) };
+        let (sent, given, count, _) = collect(pair, &mut world, setup, |pair, world, sent| {
+            if sent <= captures {
+                capture_on(pair, world, 7, [0; 4])?;
+            }
+            Ok(())
+        })?;
+        let row = format!("{captures} captures, one in an attempt: ending {answer}, 65,536 commands");
+        hold((given, count, sent.len()) == (answer, 65_536, 65_536), &row)?;
+    }
+    Ok(())
 }

@@ -115,7 +115,7 @@ pub fn good_setup(random: &mut Random) -> Setup {
         caps |= DA4S | ETDAS;
     }
     let near = 1 + random.up_to(8_191);
-    let attempts = 1 + random.up_to(255);
+    let attempts = 1 + random.up_to(65_534);
     let room = random.up_to(1_048_576) as u64 * 512;
     Setup {
         page,
@@ -123,7 +123,7 @@ pub fn good_setup(random: &mut Random) -> Setup {
         area,
         caps,
         chunk: random.pick(&[1, 2, near, 8_191, 8_192]),
-        attempts: random.pick(&[1, 2, attempts, 255, 256]),
+        attempts: random.pick(&[1, 2, attempts, 255, 256, 257, 65_534, 65_535]),
         room: random.pick(&[0, 512, room, 536_870_400, 536_870_912]),
     }
 }
@@ -138,7 +138,7 @@ pub fn stretch_setup(random: &mut Random, setup: &mut Setup) {
         3 => setup.caps = random.pick(&[byte, byte & 31, 32, 255, setup.caps | 32]),
         4 => setup.caps &= !random.pick(&[EXTENDED, TELEMETRY, DA4S, ETDAS]),
         5 => setup.chunk = random.pick(&[0, 1, 8_192, 8_193, u32::MAX]),
-        6 => setup.attempts = random.pick(&[0, 1, 256, 257, u32::MAX]),
+        6 => setup.attempts = random.pick(&[0, 1, 257, 65_535, 65_536, 65_537, u32::MAX]),
         7 => setup.room = random.pick(&[0, 1, 256, 511, 513, 536_870_911, 536_870_912]),
         _ => {
             setup.room =

@@ -44,7 +44,7 @@ fn forge(random: &mut Random, state: &mut [u8; STATE_BYTES]) {
         3 => state[3] = random.pick(&[0, 1, 2, 3, 4, 5, byte]),
         4 => state[4] = byte & 31,
         5 => put_u32(state, 8, random.pick(&[0, 1, 2, 8_192, 8_193, u32::MAX])),
-        6 => put_u32(state, 12, random.pick(&[0, 1, 256, 257, u32::MAX])),
+        6 => put_u32(state, 12, random.pick(&[0, 1, 257, 65_535, 65_536, 65_537, u32::MAX])),
         7 => put_u32(state, 16, random.pick(&[0, attempts, attempts.wrapping_add(1), u32::MAX])),
         8 if state[0] == CHUNK => put_u32(state, 20, random.pick(&[0, 1, 2, 5, 6, 9, u32::MAX])),
         9 => put_u64(state, 24, random.pick(&[0, 512, 513, 1_024, 536_870_912, 536_871_424, u64::MAX - 511, 1 << 32])),
