@@ -38,7 +38,7 @@ struct Kind {
     case: Case,
 }
 
-const KINDS: [Kind; 41] = [
+const KINDS: [Kind; 43] = [
     Kind { name: "01: rows of a page", share: 0, case: outside::page_rows },
     Kind { name: "01: rows of trimming", share: 0, case: outside::trimming_rows },
     Kind { name: "01: rows and listing", share: 0, case: outside::collection_rows },
@@ -55,6 +55,7 @@ const KINDS: [Kind; 41] = [
     Kind { name: "02: a commit in a run", share: 0, case: outside::commit_in_a_run },
     Kind { name: "02: attempts", share: 0, case: outside::attempts_table },
     Kind { name: "02: attempts used up", share: 0, case: outside::attempts_used_up },
+    Kind { name: "02: mixed copies", share: 0, case: outside::mixed_copies },
     Kind { name: "classes", share: 0, case: singles::classes },
     Kind { name: "statuses", share: 0, case: singles::statuses },
     Kind { name: "drops and store lengths", share: 0, case: singles::store_lengths },
@@ -80,6 +81,7 @@ const KINDS: [Kind; 41] = [
     Kind { name: "matching headers", share: 600, case: orders::matches },
     Kind { name: "runs", share: 400, case: runs::runs },
     Kind { name: "runs of k", share: 300, case: runs::runs_of_k },
+    Kind { name: "soak tests", share: 20, case: runs::soaks },
 ];
 
 const USAGE: &str =

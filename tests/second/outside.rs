@@ -594,6 +594,31 @@ fn capture_on(pair: &mut Pair, world: &mut World, page: u8, last: LastBlocks) ->
     hold(answer == 0, "a capture is taken")
 }
 
+/// Document 02, Q-14: "show one run with exactly 256 captures in one attempt where the copy mixes two captures and the run ends well": H c1,
+/// the captures, c2 h. With one more or one less the next attempt brings the later capture, whole.
+pub fn mixed_copies(pair: &mut Pair, _: &mut Random) -> Same<()> {
+    let later = numbered(2, 0x40);
+    for (page, first_block) in [(7, 0x01), (8, 0x81)] {
+        let mixed = [[first_block; BLOCK], [0x42; BLOCK]].concat();
+        for (captures, copy, commands) in [(255, &later, 7), (256, &mixed, 4), (257, &later, 7), (512, &mixed, 4)] {
+            let mut world = drive(EXTENDED | TELEMETRY, [0, 0, 2, 0]);
+            generate::put_last(&mut world.record, at::CONTROLLER_LAST, [0, 0, 2, 0]);
+            world.record[at::AVAILABLE] = 1;
+            let caps = EXTENDED | TELEMETRY;
+            let setup = Setup { page, create: 0, area: 3, caps, chunk: 1, attempts: 2, room: 1_024 };
+            let ran = collect(pair, &mut world, setup, |pair, world, sent| {
+                let times = if sent == 2 { captures } else { 0 };
+                (0..times).try_for_each(|_| capture_on(pair, world, page, [0, 0, 2, 2]))
+            })?;
+            let commands = commands + (page == 8) as u64;
+            let row = format!("0{page}h, {captures} captures in an attempt: ending 0, {commands} commands");
+            hold(ran.1 == 0 && ran.2 == commands && ran.0.len() as u64 == commands, &row)?;
+            hold(ran.3 == *copy, &format!("{row}, and which captures the copy holds"))?;
+        }
+    }
+    Ok(())
+}
+
 /// All of 65,535 attempts on a page without blocks, where an attempt is its closing header: with a capture in each they are used up; without
 /// one in the last they are enough, and the commands are demand 3's bound 1 + (k + 1)(C + 1), k being 65,534 and C 0.
 pub fn attempts_used_up(pair: &mut Pair, _: &mut Random) -> Same<()> {

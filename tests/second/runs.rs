@@ -13,6 +13,9 @@ const CHUNK: u8 = 1;
 const HEADER_AFTER_REFUSAL: u8 = 3;
 const ACKNOWLEDGEMENT: u8 = 4;
 
+/// So many captures in one attempt are surely told by its closing header, since a generation is one byte.
+const MOST_CAPTURES_TOLD: u32 = 255;
+
 pub fn words_of(next: &[u8; NEXT_BYTES]) -> Words {
     [4, 8, 12, 16, 20].map(|at| get_u32(next, at))
 }
@@ -31,8 +34,10 @@ struct Run {
     captures: u64,
     /// drops of the run's page since then
     drops: u64,
-    /// of the captures, those since the last check
-    captures_since_check: u64,
+    /// of the captures, those since a header was last read: since an attempt's first, or since the last check
+    captures_since_header: u64,
+    /// the most captures between a header that opened an attempt and the one that closed it
+    captures_in_an_attempt: u64,
     /// the wanted area when the closing header was last read
     area_at_check: Vec<u8>,
     /// the most chunks that a header called for
@@ -46,7 +51,8 @@ pub fn runs(pair: &mut Pair, random: &mut Random) -> Same<()> {
     let mut run = begin(pair, random, world, setup, honest)?;
     while run.next[0] == SEND {
         run.one_command(pair, random)?;
-        if run.next[0] == SEND && random.chance(busy) {
+        // Others rest at last, so that no run takes all of 65,535 attempts.
+        if run.next[0] == SEND && run.sent < 2_000 && random.chance(busy) {
             run.happenings(pair, random)?;
         }
     }
@@ -57,7 +63,7 @@ pub fn runs(pair: &mut Pair, random: &mut Random) -> Same<()> {
 pub fn runs_of_k(pair: &mut Pair, random: &mut Random) -> Same<()> {
     let (world, plan) = drive_and_setup(random);
     let k = random.pick(&[0, 1, 1, 2, 2, 3, 5, 9]);
-    let attempts = k + 1 + random.pick(&[0, 0, 1, 40]);
+    let attempts = random.pick(&[k + 1, k + 1, k + 2, k + 41, 65_535]);
     let busy = random.pick(&[20, 50, 100]);
     let mut run = begin(pair, random, world, Setup { attempts, ..plan }, true)?;
     let mut happened = 0;
@@ -68,13 +74,35 @@ pub fn runs_of_k(pair: &mut Pair, random: &mut Random) -> Same<()> {
             happened += 1;
         }
     }
-    let answer = run.next[1];
-    claim(
-        [SUCCESS, NO_ROOM, WITHDRAWN, NOTHING].contains(&answer),
-        "with more than k attempts a run ends with 0, 8, 10 or 11",
-    )?;
-    claim(run.captures + run.drops <= k as u64, "no more than k captures and drops were counted")?;
-    run.finish(pair)
+    run.finish_of_k(pair, k)
+}
+
+/// Soak tests: the same with hundreds of captures and drops, at most 255 of the captures in an attempt. After the last check there may be
+/// any number of them.
+pub fn soaks(pair: &mut Pair, random: &mut Random) -> Same<()> {
+    let (mut world, mut plan) = drive_and_setup(random);
+    while world.host_store.len().max(world.controller_store.len()) >= 8 * BLOCK {
+        (world, plan) = drive_and_setup(random);
+    }
+    let k = random.pick(&[256, 300, 700]);
+    let (attempts, chunk, room) = (random.pick(&[k + 1, 65_535]), random.pick(&[1, 1, 2]), 8 * 512);
+    let mut run = begin(pair, random, world, Setup { attempts, chunk, room, ..plan }, true)?;
+    let mut left = k;
+    while run.next[0] == SEND {
+        run.one_command(pair, random)?;
+        if run.next[0] == SEND && random.chance(60) {
+            let after_check = run.state[0] == ACKNOWLEDGEMENT;
+            let most = if after_check { left } else { left.min(MOST_CAPTURES_TOLD - run.captures_since_header as u32) };
+            let captures = random.pick(&[1, 100, 256, most]).min(most);
+            run.burst(pair, random, captures)?;
+            left -= captures;
+            if left > 0 && random.chance(20) {
+                run.drop_host_data(pair)?;
+                left -= 1;
+            }
+        }
+    }
+    run.finish_of_k(pair, k)
 }
 
 fn claim(holds: bool, what: &str) -> Same<()> {
@@ -96,7 +124,7 @@ fn drive_and_setup(random: &mut Random) -> (World, Setup) {
     let now = area_last(&world, plan);
     let any = random.up_to(all);
     let blocks = random.pick(&[all, all, all, all + 3, now, now.saturating_sub(1), any]);
-    let attempts = random.pick(&[1, 2, 2, 3, 4, 8, 256]);
+    let attempts = random.pick(&[1, 2, 2, 3, 4, 8, 257, 65_535]);
     // A large area goes in large chunks, so that no run takes hundreds of commands.
     let chunk = if all > 40 { random.pick(&[100, 513, 8_192]) } else { random.pick(&[1, 1, 2, 3, 4, 7, 8_192]) };
     (world, Setup { room: blocks as u64 * 512, attempts, chunk, ..plan })
@@ -118,7 +146,8 @@ fn begin(pair: &mut Pair, random: &mut Random, world: World, setup: Setup, hones
         sent: 0,
         captures: 0,
         drops: 0,
-        captures_since_check: 0,
+        captures_since_header: 0,
+        captures_in_an_attempt: 0,
         area_at_check,
         chunks: 0,
     })
@@ -197,7 +226,10 @@ impl Run {
         if phase != CHUNK && phase != ACKNOWLEDGEMENT {
             let last = area_last(&self.world, self.setup);
             self.area_at_check = wanted_area(&self.world, self.setup);
-            self.captures_since_check = 0;
+            if phase != FIRST_HEADER {
+                self.captures_in_an_attempt = self.captures_in_an_attempt.max(self.captures_since_header);
+            }
+            self.captures_since_header = 0;
             self.chunks = self.chunks.max(last.div_ceil(self.setup.chunk) as u64);
         }
         Ok(())
@@ -221,11 +253,12 @@ impl Run {
     /// What others do between two own commands.
     fn happenings(&mut self, pair: &mut Pair, random: &mut Random) -> Same<()> {
         // Now and then as many captures as bring a generation back to where it was, or nearly.
-        let small = self.store().len() < 8 * BLOCK;
-        let times = if small && random.chance(2) { random.pick(&[255, 256]) } else { random.pick(&[1, 1, 1, 2, 3]) };
-        for _ in 0..times {
+        if self.store().len() < 8 * BLOCK && random.chance(2) {
+            let captures = random.pick(&[255, 256, 256, 257, 512]);
+            return self.burst(pair, random, captures);
+        }
+        for _ in 0..random.pick(&[1, 1, 1, 2, 3]) {
             let captured = match random.up_to(11) {
-                _ if times > 3 => self.own_page_capture(pair, random)?,
                 0..=3 => self.own_page_capture(pair, random)?,
                 4 => self.controller_capture(pair, random)?,
                 5 => self.foreign_create(pair, random)?,
@@ -234,6 +267,30 @@ impl Run {
                 _ => self.foreign_command(pair, random)?,
             };
             self.book_capture(captured);
+        }
+        Ok(())
+    }
+
+    /// So many captures of the run's page, if it takes them. Half the time they have the areas that it has: these and the generation are all
+    /// that headers tell captures by.
+    fn burst(&mut self, pair: &mut Pair, random: &mut Random, captures: u32) -> Same<()> {
+        let host = self.setup.page == HOST_PAGE;
+        let last = generate::last_of(&self.world.record, if host { at::HOST_LAST } else { at::CONTROLLER_LAST });
+        let same = Event::captured(self.setup.page, [last[0], last[1], last[2], last[2].max(last[3])]);
+        let keeps_areas = (host || last[2] > 0) && random.chance(50);
+        let mut taken = 0;
+        for _ in 0..4 * captures {
+            if taken == captures {
+                break;
+            }
+            let captured = if keeps_areas {
+                happen(pair, random, &mut self.world, &same)?;
+                true
+            } else {
+                self.own_page_capture(pair, random)?
+            };
+            self.book_capture(captured);
+            taken += captured as u32;
         }
         Ok(())
     }
@@ -251,7 +308,7 @@ impl Run {
 
     fn book_capture(&mut self, captured: bool) {
         self.captures += captured as u64;
-        self.captures_since_check += captured as u64;
+        self.captures_since_header += captured as u64;
     }
 
     /// A Firmware Commit or power on. It is no capture, so the books have it here; of page 08h it changes nothing.
@@ -307,6 +364,18 @@ impl Run {
         Ok(answer == SUCCESS && creates && self.setup.page == HOST_PAGE)
     }
 
+    /// What is claimed of an ended run that had more attempts than the k captures and drops that could happen.
+    fn finish_of_k(&mut self, pair: &mut Pair, k: u32) -> Same<()> {
+        claim(
+            [SUCCESS, NO_ROOM, WITHDRAWN, NOTHING].contains(&self.next[1]),
+            "with more than k attempts a run ends with 0, 8, 10 or 11",
+        )?;
+        claim(self.captures + self.drops <= k as u64, "no more than k captures and drops were counted")?;
+        let told = self.captures_in_an_attempt <= MOST_CAPTURES_TOLD as u64;
+        claim(told, "no attempt had more captures than its closing header tells")?;
+        self.finish(pair)
+    }
+
     /// What is claimed of an ended run, and that it stays ended.
     fn finish(&mut self, pair: &mut Pair) -> Same<()> {
         self.check_ending()?;
@@ -335,7 +404,7 @@ impl Run {
         let k = self.captures + self.drops;
         let bound = 1 + (k + 1) * (self.chunks + 1) + controller_page as u64;
         claim(count <= bound, "a run ends within 1 + (k + 1)(C + 1) commands, one more on 08h")?;
-        if self.captures > 255 {
+        if self.captures_in_an_attempt > MOST_CAPTURES_TOLD as u64 {
             return Ok(());
         }
         let may_be_used_up = k >= self.setup.attempts as u64;
@@ -354,8 +423,9 @@ impl Run {
             claim(area == Some(&self.area_at_check[..]), "the copy is the wanted area at the last check")?;
             let tail = &self.copy[self.area_at_check.len()..];
             claim(tail.iter().all(|byte| *byte == 0), "zeros stand after the wanted area")?;
-            let told = controller_page && self.captures_since_check > 0;
-            claim(newer == told, "newer tells of a capture between the last check and the acknowledgement")?;
+            // However many captures follow the last check: a multiple of 256 is not told.
+            let told = controller_page && self.captures_since_header % 256 != 0;
+            claim(newer == told, "newer tells of captures between the last check and the acknowledgement")?;
         }
         Ok(())
     }
@@ -381,7 +451,23 @@ enum Event {
     Clear,
     /// a Firmware Commit or power on
     Drop,
+    /// one of the others, so many times
+    Many(u32, &'static Event),
 }
+
+impl Event {
+    fn captured(page: u8, last: LastBlocks) -> Event {
+        if page == HOST_PAGE {
+            Event::Create(last)
+        } else {
+            Event::Capture(last)
+        }
+    }
+}
+
+/// A capture of page 07h, and of page 08h, that has the areas of the one before it.
+const SAME_07H: Event = Event::Create([0, 0, 2, 2]);
+const SAME_08H: Event = Event::Capture([0, 0, 2, 2]);
 
 /// A run of one capture plan, as its commands are expected: H first header, cN chunk at block N, h closing header, A acknowledgement, and
 /// ! after a refused one.
@@ -400,8 +486,8 @@ struct Script {
     newer: bool,
 }
 
-/// Corner cases in which captures, clearings, drops and the end of a page meet.
-const SCRIPTS: [Script; 34] = [
+/// Corner cases in which captures, few and many, clearings, drops and the end of a page meet.
+const SCRIPTS: [Script; 51] = [
     script(7, [0, 0, 3, 0], 2, 4, &[], "H c1 c3 h", 0, false),
     script(7, [0, 0, 0, 0], 2, 4, &[], "H h", 0, false),
     Script { area: 1, ..script(8, [0, 0, 3, 0], 2, 4, &[], "H h A", 0, false) },
@@ -520,6 +606,96 @@ const SCRIPTS: [Script; 34] = [
     // Page 08h knows nothing of drops.
     script(8, [0, 0, 2, 0], 1, 4, &[(1, Event::Drop), (2, Event::Drop), (4, Event::Drop)], "H c1 c2 h A", 0, false),
     script(8, [0, 0, 1, 0], 1, 4, &[(1, Event::Drop), (3, Event::Capture([0, 0, 2, 2]))], "H c1 h A", 0, true),
+    // 300 captures of the same areas in one run, none of its attempts having more than 255.
+    script(
+        7,
+        [0, 0, 2, 0],
+        1,
+        4,
+        &[(1, Event::Many(100, &SAME_07H)), (5, Event::Many(100, &SAME_07H)), (9, Event::Many(100, &SAME_07H))],
+        "H c1 c2 h c1 c2 h c1 c2 h c1 c2 h",
+        0,
+        false,
+    ),
+    script(
+        7,
+        [0, 0, 2, 0],
+        1,
+        4,
+        &[(2, Event::Many(255, &SAME_07H)), (6, Event::Many(45, &SAME_07H))],
+        "H c1 c2 h c1 c2 h c1 c2 h",
+        0,
+        false,
+    ),
+    script(
+        8,
+        [0, 0, 2, 0],
+        1,
+        4,
+        &[(2, Event::Many(255, &SAME_08H)), (5, Event::Many(255, &SAME_08H)), (9, Event::Many(90, &SAME_08H))],
+        "H c1 c2 h c1 c2 h c1 c2 h c1 c2 h A",
+        0,
+        false,
+    ),
+    // 256 of them before and after a closing header, but no more than 255 between two.
+    script(
+        7,
+        [0, 0, 2, 0],
+        1,
+        4,
+        &[(3, Event::Many(128, &SAME_07H)), (4, Event::Many(128, &SAME_07H))],
+        "H c1 c2 h c1 c2 h c1 c2 h",
+        0,
+        false,
+    ),
+    // Drops do not count for the 255, wherever they fall.
+    script(
+        7,
+        [0, 0, 2, 0],
+        1,
+        4,
+        &[(1, Event::Many(9, &Event::Drop)), (2, Event::Many(255, &SAME_07H))],
+        "H c1 c2 h c1 c2 h",
+        0,
+        false,
+    ),
+    script(
+        7,
+        [0, 0, 2, 0],
+        1,
+        4,
+        &[(1, Event::Many(255, &SAME_07H)), (2, Event::Many(9, &Event::Drop))],
+        "H c1 c2! h h",
+        0,
+        false,
+    ),
+    script(
+        7,
+        [0, 0, 2, 0],
+        1,
+        4,
+        &[(1, Event::Many(127, &SAME_07H)), (2, Event::Many(300, &Event::Drop)), (3, Event::Many(128, &SAME_07H))],
+        "H c1 c2! h c1 c2 h",
+        0,
+        false,
+    ),
+    // 300 drops in one attempt are one change.
+    script(7, [0, 0, 2, 0], 1, 4, &[(1, Event::Many(300, &Event::Drop))], "H c1 c2! h h", 0, false),
+    // They use an attempt up.
+    Script {
+        attempts: 1,
+        ..script(7, [0, 0, 2, 0], 1, 4, &[(1, Event::Many(255, &SAME_07H)), (1, Event::Drop)], "H c1 c2! h", 9, false)
+    },
+    // 257 captures in one attempt are told as one is, and 256 where the areas are others at the end.
+    script(7, [0, 0, 2, 0], 1, 4, &[(2, Event::Many(257, &SAME_07H))], "H c1 c2 h c1 c2 h", 0, false),
+    script(7, [0, 0, 2, 0], 1, 4, &[(3, Event::Many(256, &Event::Create([0, 0, 1, 1])))], "H c1 c2 h c1 h", 0, false),
+    script(7, [0, 0, 2, 0], 1, 4, &[(2, Event::Many(256, &SAME_07H)), (2, Event::Drop)], "H c1 c2! h h", 0, false),
+    // Captures after the last check are not limited, and a multiple of 256 is not told.
+    script(8, [0, 0, 2, 0], 2, 4, &[(3, Event::Many(255, &SAME_08H))], "H c1 h A", 0, true),
+    script(8, [0, 0, 2, 0], 2, 4, &[(3, Event::Many(256, &SAME_08H))], "H c1 h A", 0, false),
+    script(8, [0, 0, 2, 0], 2, 4, &[(3, Event::Many(256, &Event::Capture([0, 0, 9, 9])))], "H c1 h A", 0, false),
+    script(8, [0, 0, 2, 0], 2, 4, &[(3, Event::Many(257, &SAME_08H))], "H c1 h A", 0, true),
+    script(8, [0, 0, 2, 0], 2, 4, &[(3, Event::Many(512, &SAME_08H))], "H c1 h A", 0, false),
 ];
 
 #[allow(clippy::too_many_arguments)]
@@ -604,6 +780,7 @@ fn name_of(state: &[u8; STATE_BYTES]) -> String {
 fn happen(pair: &mut Pair, random: &mut Random, world: &mut World, event: &Event) -> Same<()> {
     let mut buffer = vec![0; BLOCK];
     let answer = match event {
+        Event::Many(times, event) => return (0..*times).try_for_each(|_| happen(pair, random, world, event)),
         Event::Drop => pair.drop_host_data(world)?,
         Event::Capture(last) => pair.capture(world, &offer_of(random, *last))?,
         Event::Create(last) => pair.command(world, &offer_of(random, *last), [0x007F_8107, 0, 0, 0, 0], &mut buffer)?.0,
