@@ -121,7 +121,7 @@ BUMBAZEEL_ASSERT(sizeof(struct bumbazeel_state) == 56, "struct bumbazeel_state h
 struct bumbazeel_next {
     uint8_t kind;      /*  0: one of the three kinds below */
     uint8_t answer;    /*  1: the number of an ending or a refusal; 0 with a command */
-    uint8_t newer;     /*  2: 1 if an ending acknowledged a newer capture unread */
+    uint8_t newer;     /*  2: 1 if an ending acknowledged a newer capture unread; a multiple of 256 newer ones is not seen */
     uint8_t zero;      /*  3 */
     uint32_t words[5]; /*  4: the next command, CDW10 to CDW14; zeros if there is none */
     uint64_t count;    /* 24: with an ending, the number of commands sent; else 0 */
@@ -164,7 +164,9 @@ uint8_t bumbazeel_setup(uint8_t page, uint8_t create, uint8_t area, uint8_t caps
                         struct bumbazeel_state *state, struct bumbazeel_next *next);
 
 /* Takes the completion of the awaited command: whether it succeeded, and its data (none with a refusal). A closing header matches
- * if its generation and all four last blocks are those of the header that opened the attempt, and then the copy stands. Answers next->kind.
+ * if its generation and all four last blocks are those of the header that opened the attempt, and then the copy stands. A generation is one
+ * byte, so a multiple of 256 captures of the same areas between the two headers is not seen, and the copy may mix captures then; with at most
+ * 255 in an attempt it never does, however many the whole run meets. Answers next->kind.
  * BUMBAZEEL_SEND: the next command is awaited, and a chunk that came was written to its place in the copy. BUMBAZEEL_ENDED: with success
  * the copy holds the wanted area and zeros after it, else zeros alone. BUMBAZEEL_REFUSED: 14, 13 or 15; state and copy are as they
  * were. *next is always written. */
