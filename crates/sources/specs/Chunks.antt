@@ -55,6 +55,7 @@ full-done c at b l h f = let e = chunk-full c at b h (omega arith) in omega arit
 short-done : (c at b : ℕ) → 1 ≤ at → at ≤ b → b < at + c → at - 1 + chunkBlocks c at b ≡ b
 short-done c at b l h f = let e = chunk-short c at b h (omega arith) in omega arith
 
+-- two tests of equality that hold in the same cases are one test
 same-test : (a b c d : ℕ) → (a ≡ b → c ≡ d) → (c ≡ d → a ≡ b) → eqb a b ≡ eqb c d
 same-test a b c d f g =
     by-test (eqb a b) (λ t. t ∙ sym (eq-eqb c d (f (eqb-true a b t)))) (λ t. t ∙ sym (ne-eqb c d (λ e. eqb-false a b t (g e))))
