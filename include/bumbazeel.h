@@ -71,14 +71,29 @@ enum {
 /* ---- identifier classes */
 enum { BUMBAZEEL_CLASS_NAMED = 0, BUMBAZEEL_CLASS_ELSEWHERE = 1, BUMBAZEEL_CLASS_VENDOR = 2, BUMBAZEEL_CLASS_RESERVED = 3 };
 
-/* What a header says. 156 bytes. */
+/* ---- fields at fault in a bad header: the first of these, in this order, is told */
+enum {
+    BUMBAZEEL_FIELD_NONE = 0,       /* no field is told: the answer is not 7 */
+    BUMBAZEEL_FIELD_LENGTH = 1,     /* the header has not 512 bytes */
+    BUMBAZEEL_FIELD_IDENTIFIER = 2, /* the page asked for is neither 07h nor 08h, or the header's first byte is not that page */
+    BUMBAZEEL_FIELD_AREA_2 = 3,     /* the last block of area 2 is below that of area 1 */
+    BUMBAZEEL_FIELD_AREA_3 = 4,     /* the last block of area 3 is below that of area 2 */
+    BUMBAZEEL_FIELD_AREA_4 = 5,     /* the last block of area 4 is, without DA4S, not 0; with DA4S below that of area 3, over 1,048,576, or
+                                       not 0 though area 3's is 0 */
+    BUMBAZEEL_FIELD_SCOPE = 6,      /* the scope is over 2 */
+    BUMBAZEEL_FIELD_AVAILABLE = 7,  /* TCDA is over 1 */
+    BUMBAZEEL_FIELD_EMPTY = 8       /* available but empty: on 08h TCDA is 1, and the last block of area 3 is 0 */
+};
+
+/* What a check finds of a header. 156 bytes. Of a good one, what it says; of a bad one, the field at fault with its byte, and zeros. */
 struct bumbazeel_fields {
     uint8_t page;                  /*   0: 07h or 08h */
     uint8_t scope;                 /*   1 */
     uint8_t host_generation;       /*   2: 0 on 08h */
     uint8_t available;             /*   3: TCDA */
     uint8_t controller_generation; /*   4 */
-    uint8_t zero[3];               /*   5 */
+    uint8_t bad_field;             /*   5: of a bad header the field at fault, one of those above; of a good one 0 */
+    uint16_t bad_byte;             /*   6: and the byte of the header at which that field starts; of a good one 0 */
     uint32_t oui;                  /*   8 */
     uint32_t last[4];              /*  12: last blocks of areas 1 to 4 */
     uint8_t reason[128];           /*  28 */
@@ -122,7 +137,7 @@ struct bumbazeel_next {
     uint8_t kind;      /*  0: one of the three kinds below */
     uint8_t answer;    /*  1: the number of an ending or a refusal; 0 with a command */
     uint8_t newer;     /*  2: 1 if an ending acknowledged a newer capture unread; a multiple of 256 newer ones is not seen */
-    uint8_t zero;      /*  3 */
+    uint8_t bad_field; /*  3: with ending 7 the header's field at fault, BUMBAZEEL_FIELD_IDENTIFIER to BUMBAZEEL_FIELD_EMPTY; else 0 */
     uint32_t words[5]; /*  4: the next command, CDW10 to CDW14; zeros if there is none */
     uint64_t count;    /* 24: with an ending, the number of commands sent; else 0 */
 };
@@ -150,8 +165,14 @@ BUMBAZEEL_ASSERT(sizeof(struct bumbazeel_record) == 300, "struct bumbazeel_recor
 
 /* ---- host side */
 
-/* Checks a header of `bytes` bytes for the page asked for and the drive's DA4S. 0: *fields is what it says. 7: *fields is zeros. */
+/* Checks a header of `bytes` bytes for the page asked for and the drive's DA4S. 0: *fields is what it says. 7: *fields is zeros but for
+ * `bad_field` and `bad_byte`. */
 uint8_t bumbazeel_check(uint8_t page, uint8_t da4s, const uint8_t *header, size_t bytes, struct bumbazeel_fields *fields);
+
+/* The byte at which a field, one of BUMBAZEEL_FIELD_LENGTH to BUMBAZEEL_FIELD_EMPTY, starts in a header of this page: 0 for the length and the
+ * identifier; 10, 12 and 16 for the last blocks of areas 2 to 4; 380 on 07h and 381 on any other page for the scope; 382 for TCDA; 12 for
+ * available but empty. Any other number gives 0. With ending 7 of a collection, ask it with the page that was set up and `bad_field` of *next. */
+uint16_t bumbazeel_field_byte(uint8_t page, uint8_t field);
 
 /* Builds the words of a Get Log Page: offset and length in blocks of 512 bytes, the header being block 0. 0: words are CDW10 to
  * CDW14. 13: words are zeros. */

@@ -33,9 +33,9 @@ use Rattle.state_layout.specs.Layout.{stateAt}
 use Rattle.record_layout.specs.Layout.{recordAt}
 use Rattle.next_layout.specs.Layout.{send, ending, refusal, kindOf, nextBytes}
 use Rattle.host_boundary.specs.Boundary.{planOf}
-use Rattle.c_calls.specs.Calls.{Controller, lastIn, areaIn, Program, kindIn, own, program}
+use Rattle.c_calls.specs.Calls.{Controller, lastIn, areaIn, Program, kindIn, answerIn, newerIn, own, program}
 use Rattle.c_calls.specs.Record.{record-typed}
-use Rattle.c_calls.specs.Next.{kind-back, number-back, newer-back, count-back}
+use Rattle.c_calls.specs.Next.{kind-back, answer-back, newer-back, count-back}
 use Rattle.c_calls.specs.Same.{worldAt, Fit, Same, program-same}
 use Rattle.c_calls.specs.First.{setup-sends, first-fit}
 use Rattle.c_calls.specs.Area.{last-is, area-is, long-is}
@@ -72,20 +72,20 @@ module _ (page create area caps chunk attempts room : ℕ) (copy : List ℕ) (b 
   -- how it may end, by `answer` of struct bumbazeel_next; the last check is the last header that was judged, and newer what `newer` says of captures after it
   pub data CTrueEnding (newer : Bool) : Type 0 where
     -- 0: the copy is the wanted area as it stood at the last check, and then zeros
-    succeeds : getD (last .next) 1 0 ≡ success
+    succeeds : answerIn (last .next) ≡ success
         → last .copy ≡ areaIn page area (last .checked) ++ zeros (room - block * lastIn page area (last .checked))
-        → getD (last .next) 2 0 ≡ one newer
+        → newerIn (last .next) ≡ one newer
         → CTrueEnding newer
     -- 8: the wanted area was larger than the copy, which is zeros
-    lacks-room : getD (last .next) 1 0 ≡ noRoom → last .copy ≡ zeros room
+    lacks-room : answerIn (last .next) ≡ noRoom → last .copy ≡ zeros room
         → room < block * lastIn page area (last .checked)
         → CTrueEnding newer
     -- 10: the page is 08h, and `available` of the record was 0 at the last check, which was not the first header
-    withdraws : getD (last .next) 1 0 ≡ withdrawn → last .copy ≡ zeros room
+    withdraws : answerIn (last .next) ≡ withdrawn → last .copy ≡ zeros room
         → page ≡ controllerPage → getD (last .checked .own) 5 0 ≡ 0 → 2 ≤ last .made
         → CTrueEnding newer
     -- 11: the page is 08h, and `available` of the record was 0 at the first header
-    finds-nothing : getD (last .next) 1 0 ≡ nothing → last .copy ≡ zeros room
+    finds-nothing : answerIn (last .next) ≡ nothing → last .copy ≡ zeros room
         → page ≡ controllerPage → getD (last .checked .own) 5 0 ≡ 0 → last .made ≡ 1
         → CTrueEnding newer
 
@@ -166,11 +166,11 @@ module _ (page create area caps chunk attempts room : ℕ) (copy : List ℕ) (b 
         next-is : last .next ≡ nextBytes (Ends e)
         next-is = r .next ∙ ap nextBytes q
 
-        answer-is : getD (last .next) 1 0 ≡ numberOf (e .ending)
-        answer-is = ap (λ (l : List ℕ). getD l 1 0) next-is ∙ number-back e
+        answer-is : answerIn (last .next) ≡ numberOf (e .ending)
+        answer-is = ap answerIn next-is ∙ answer-back (Ends e)
 
-        newer-is : getD (last .next) 2 0 ≡ one (newerOf (e .ending))
-        newer-is = ap (λ (l : List ℕ). getD l 2 0) next-is ∙ newer-back e
+        newer-is : newerIn (last .next) ≡ one (newerOf (e .ending))
+        newer-is = ap newerIn next-is ∙ newer-back e
 
         all-made : length (s .sent) ≡ last .made
         all-made = let none : length (given (s .said)) ≡ 0 = ap (λ (n : Next). length (given n)) q in omega (arith, r .made, none)

@@ -92,9 +92,18 @@ pub record Program : Type 0 where
   pub checked : Controller
   pub counts : Counters
 
--- `kind` of struct bumbazeel_next, and its five words
+-- `kind`, `answer`, `newer` and `bad_field` of struct bumbazeel_next, and its five words
 abbrev pub kindIn : List ℕ → ℕ
 kindIn next = getD next 0 0
+
+abbrev pub answerIn : List ℕ → ℕ
+answerIn next = getD next 1 0
+
+abbrev pub newerIn : List ℕ → ℕ
+newerIn next = getD next 2 0
+
+abbrev pub fieldIn : List ℕ → ℕ
+fieldIn next = getD next 3 0
 
 abbrev pub wordsIn : List ℕ → Words
 wordsIn next = wordsOf (valueAt 4 4 next ∷ valueAt 4 8 next ∷ valueAt 4 12 next ∷ valueAt 4 16 next ∷ valueAt 4 20 next ∷ [])

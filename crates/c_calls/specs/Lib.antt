@@ -7,3 +7,4 @@ pub mod First
 pub mod Area
 pub mod CDemand3
 pub mod Example
+pub mod Fields

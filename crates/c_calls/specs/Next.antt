@@ -22,16 +22,17 @@ use Rattle.plans.specs.Plans.{setupAnswer, wordsBy}
 use Rattle.completions.specs.declared.Seen.{Seen}
 use Rattle.judgement.specs.declared.Move.{Move}
 use Rattle.judgement.specs.declared.Move.the-variants.{End, Open, More, Skip, Acknowledge}
-use Rattle.judgement.specs.Endings.{numberOf, newerOf}
+use Rattle.judgement.specs.Endings.{newerOf}
 use Rattle.collection.specs.declared.Collection.{Collection}
 use Rattle.collection.specs.declared.Finish.{Finish}
 use Rattle.collection.specs.declared.Next.{Next}
 use Rattle.collection.specs.declared.Next.the-variants.{Send, End as Ends, Refuse}
 use Rattle.collection.specs.declared.Stepped.{Stepped}
-use Rattle.collection.specs.Collection.{awaitedOf, refusalOf, lookOf, moveOf, setupOf, stepOf}
+use Rattle.collection.specs.Collection.{awaitedOf, refusalOf, lookOf, moveOf, setupOf, stepOf, answerOf, faultSaid}
 use Rattle.collection.specs.Steps.{makes, refused-step, taken-step, setup-taken, setup-refused}
+use Rattle.shared_layouts.specs.Layouts.{faultNumber}
 use Rattle.next_layout.specs.Layout.{ending, kindOf, nextParts, nextBytes}
-use Rattle.c_calls.specs.Calls.{kindIn, wordsIn}
+use Rattle.c_calls.specs.Calls.{kindIn, answerIn, newerIn, fieldIn, wordsIn}
 
 -- five words that four bytes each can hold
 pub record Small (w : Words) : Type 0 where
@@ -100,9 +101,9 @@ setup-small p =
 
 -- ---- what the bytes say
 
-words-at : (kind answer newer : ℕ) (w : Words) (count : ℕ) → Small w → wordsIn (nextParts kind answer newer w count) ≡ w
+words-at : (kind answer newer field : ℕ) (w : Words) (count : ℕ) → Small w → wordsIn (nextParts kind answer newer field w count) ≡ w
 unfolding nextParts
-words-at kind answer newer w count s =
+words-at kind answer newer field w count s =
     same (value-back 4 (w .cdw10) (s .cdw10)) (value-back 4 (w .cdw11) (s .cdw11)) (value-back 4 (w .cdw12) (s .cdw12))
     (value-back 4 (w .cdw13) (s .cdw13)) (value-back 4 (w .cdw14) (s .cdw14))
   where
@@ -113,9 +114,9 @@ words-at kind answer newer w count s =
 -- the words in the bytes are those that follow
 pub words-back : (n : Next) → Small (wordsSaid n) → wordsIn (nextBytes n) ≡ wordsSaid n
 unfolding nextBytes
-words-back (Send w) s = words-at _ _ _ w _ s
-words-back (Ends e) s = words-at _ _ _ noWords _ s
-words-back (Refuse n) s = words-at _ _ _ noWords _ s
+words-back (Send w) s = words-at _ _ _ _ w _ s
+words-back (Ends e) s = words-at _ _ _ _ noWords _ s
+words-back (Refuse n) s = words-at _ _ _ _ noWords _ s
 
 -- the kind in the bytes is that of what follows
 pub kind-back : (n : Next) → kindIn (nextBytes n) ≡ kindOf n
@@ -124,13 +125,22 @@ kind-back (Send w) = refl
 kind-back (Ends e) = refl
 kind-back (Refuse n) = refl
 
--- `answer` of an ending is its number
-pub number-back : (e : Finish) → getD (nextBytes (Ends e)) 1 0 ≡ numberOf (e .ending)
+-- `answer` is the number of what follows
+pub answer-back : (n : Next) → answerIn (nextBytes n) ≡ answerOf n
 unfolding nextBytes nextParts
-number-back e = refl
+answer-back (Send w) = refl
+answer-back (Ends e) = refl
+answer-back (Refuse a) = refl
+
+-- `bad_field` is the number of what it says is at fault in a header
+pub field-back : (n : Next) → fieldIn (nextBytes n) ≡ faultNumber (faultSaid n)
+unfolding nextBytes nextParts
+field-back (Send w) = refl
+field-back (Ends e) = refl
+field-back (Refuse a) = refl
 
 -- `newer` is 1 where a newer capture was acknowledged unread
-pub newer-back : (e : Finish) → getD (nextBytes (Ends e)) 2 0 ≡ one (newerOf (e .ending))
+pub newer-back : (e : Finish) → newerIn (nextBytes (Ends e)) ≡ one (newerOf (e .ending))
 unfolding nextBytes nextParts
 newer-back e = refl
 

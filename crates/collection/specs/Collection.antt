@@ -10,6 +10,8 @@ use Rattle.choices.specs.Choice.{pick}
 use Rattle.copies.specs.Parts.{zeros}
 use Rattle.answers.specs.Answers.{success}
 use Rattle.words.specs.declared.Words.{Words}
+use Rattle.header.specs.declared.Fault.{Fault}
+use Rattle.header.specs.declared.Fault.the-variants.{None}
 use Rattle.plans.specs.declared.Plan.{Plan}
 use Rattle.plans.specs.declared.Phase.{Phase}
 use Rattle.plans.specs.declared.Phase.the-variants.{First, Ended}
@@ -22,7 +24,7 @@ use Rattle.completions.specs.Completions.{lookBy, touched}
 use Rattle.judgement.specs.declared.Ending.{Ending}
 use Rattle.judgement.specs.declared.Move.{Move}
 use Rattle.judgement.specs.declared.Move.the-variants.{End, Open, More, Skip, Acknowledge}
-use Rattle.judgement.specs.Endings.{numberOf}
+use Rattle.judgement.specs.Endings.{numberOf, faultIn}
 use Rattle.judgement.specs.Judgement.{testsOf, judgeBy}
 use Rattle.turns.specs.declared.Turn.{Turn}
 use Rattle.turns.specs.Refusals.{mostCount, validBy, fitsBy, firstRefusal}
@@ -147,6 +149,12 @@ abbrev pub answerOf : Next → ℕ
 answerOf (Send w) = success
 answerOf (Ends e) = numberOf (e .ending)
 answerOf (Refuse answer) = answer
+
+-- what an answer says is at fault in a header: nothing with a command or a refusal
+abbrev pub faultSaid : Next → Fault
+faultSaid (Send w) = None
+faultSaid (Ends e) = faultIn (e .ending)
+faultSaid (Refuse answer) = None
 
 -- ---- for the code's arithmetic
 

@@ -111,7 +111,7 @@ module _ (s : Collection) (d copy : List ℕ) (e : Finish) (w : areaBytes (s .pl
   moves : (ok : Bool) (h : Seen) → Moves (Leaves s d copy e h) s ok h
   unfolding makes
   moves ok h = record {
-    fail = λ x l. ended h x false;
+    fail = λ x l t. ended h x false;
     large = λ f l. ended h NoRoom true;
     first = λ f r. goes-on h (Open false) _ refl;
     again = λ f l r. goes-on h (Open true) _ refl;
@@ -146,7 +146,7 @@ sending-copy s ok d copy x q other =
     (λ r.
     taken-copy s ok d copy r
     ∙ move-cases (Keeps s d copy x (lookOf s d)) s ok (lookOf s d) (record {
-      fail = λ n l p. not-sent (sym p);
+      fail = λ n l t p. not-sent (sym p);
       large = λ f l p. not-sent (sym p);
       first = λ f l p. refl;
       again = λ f l a p. refl;

@@ -7,15 +7,16 @@ use mathlib.Core.Bool.{Bool, true, false, not, _&&_}
 use native.Mathlib.Omega.{arith}
 use lib.ListN.{length}
 use lib.Dec.{leb, eqb}
-use borrow.Author.Tests.{leb-true, leb-false, eqb-true, ne-eqb, not-true, not-false}
+use borrow.Author.Tests.{leb-true, leb-false, eqb-true, eqb-false, ne-eqb, not-true, not-false}
 use Rattle.choices.specs.Choice.{pick, pick-cases}
 use Rattle.choices.specs.Tests.{each, and-left, and-right}
-use Rattle.answers.specs.Answers.{success}
+use Rattle.answers.specs.Answers.{success, badHeader}
 use Rattle.pages.specs.Pages.{controllerPage}
+use Rattle.header.specs.declared.Fault.the-variants.{None}
 use Rattle.header.specs.Header.{faultless}
 use Rattle.plans.specs.declared.Phase.{Phase}
 use Rattle.plans.specs.declared.Phase.the-variants.{First, Chunk, Close, Ack, Ended}
-use Rattle.plans.specs.Phases.{closingBy, endedBy}
+use Rattle.plans.specs.Phases.{judgedBy, closingBy, endedBy}
 use Rattle.plans.specs.Plans.{setupAnswer, areaLast, fitsRoom, insideBy, withinBy}
 use Rattle.plans.specs.Limits.{plan-limits}
 use Rattle.completions.specs.declared.Seen.{Seen}
@@ -24,6 +25,7 @@ use Rattle.judgement.specs.declared.Ending.{Ending}
 use Rattle.judgement.specs.declared.Ending.the-variants.{Success, BadHeader, NoRoom, UsedUp, Withdrawn, Nothing, BrokeItsWord}
 use Rattle.judgement.specs.declared.Move.{Move}
 use Rattle.judgement.specs.declared.Move.the-variants.{End, Open, More, Skip, Acknowledge}
+use Rattle.judgement.specs.Endings.{numberOf, faultIn}
 use Rattle.judgement.specs.Judgement.{matches, newerThan, testsOf, firstOrder, matchOrder, laterOrder, judgeBy}
 use Rattle.turns.specs.Turns.{good}
 use Rattle.collection.specs.declared.Collection.{Collection}
@@ -108,9 +110,21 @@ settled-is s ok d copy e f = rw (f, e)
 
 -- ---- the move that a completion calls for
 
+-- what an ending says of a header's fault: with 7 what is at fault in the header, which is one that is judged and came; with any other number nothing
+pub record Says (s : Collection) (ok : Bool) (h : Seen) (e : Ending) : Type 0 where
+  pub fault : faultIn e ≡ pick (eqb (numberOf e) badHeader) (h .fault) None
+  pub judged : numberOf e ≡ badHeader → judgedBy (s .phase) ≡ true
+  pub came : numberOf e ≡ badHeader → ok ≡ true
+  pub bad : numberOf e ≡ badHeader → faultless (h .fault) ≡ false
+
+pub says-nothing : {s : Collection} {ok : Bool} {h : Seen} (e : Ending) → faultIn e ≡ None → eqb (numberOf e) badHeader ≡ false → Says s ok h e
+says-nothing e x t =
+    let n = eqb-false (numberOf e) badHeader t in
+    record { fault = x ∙ rw t; judged = λ q. absurd (n q); came = λ q. absurd (n q); bad = λ q. absurd (n q) }
+
 -- all moves that a completion can call for in a state, each with what holds then
 pub record Moves (P : Move → Type 0) (s : Collection) (ok : Bool) (h : Seen) : Type 0 where
-  pub fail : (e : Ending) → good e ≡ false → P (End e false)
+  pub fail : (e : Ending) → good e ≡ false → Says s ok h e → P (End e false)
   pub large : closingBy (s .phase) ≡ true → s .attempt .number < s .plan .attempts → P (End NoRoom true)
   pub first : s .phase ≡ First → fitsRoom (s .plan) (h .last) ≡ true → P (Open false)
   pub again : closingBy (s .phase) ≡ true → s .attempt .number < s .plan .attempts → fitsRoom (s .plan) (h .last) ≡ true → P (Open true)
@@ -126,31 +140,35 @@ module _ (P : Move → Type 0) (s : Collection) (ok : Bool) (h : Seen) (m : Move
   unfolding matchOrder testsOf
   by-match after e =
       let f : closingBy (s .phase) ≡ true = rw e in
-      pick-cases P (matches (s .attempt) h && after) (λ b. m .fail BrokeItsWord refl)
+      pick-cases P (matches (s .attempt) h && after) (λ b. m .fail BrokeItsWord refl (says-nothing BrokeItsWord refl refl))
       (λ b. pick-cases P (matches (s .attempt) h && eqb (s .plan .page) controllerPage)
       (λ w. let q = and-left (matches (s .attempt) h) (eqb (s .plan .page) controllerPage) w in
       let a : after ≡ false = rw q at b in
       m .acknowledge (e ∙ ap Close a) q (eqb-true _ _ (and-right (matches (s .attempt) h) (eqb (s .plan .page) controllerPage) w)))
       (λ w. pick-cases P (matches (s .attempt) h)
       (λ q. let a : after ≡ false = rw q at b in m .stand (e ∙ ap Close a) q (rw q at w))
-      (λ q. pick-cases P (leb (s .plan .attempts) (s .attempt .number)) (λ u. m .fail UsedUp refl)
+      (λ q. pick-cases P (leb (s .plan .attempts) (s .attempt .number)) (λ u. m .fail UsedUp refl (says-nothing UsedUp refl refl))
       (λ u. let l = leb-false (s .plan .attempts) (s .attempt .number) u in
       pick-cases P (not (fitsRoom (s .plan) (h .last))) (λ r. m .large f l) (λ r. m .again f l (not-false _ r))))))
+
+  -- a bad header
+  by-fault : judgedBy (s .phase) ≡ true → not ok ≡ false → not (faultless (h .fault)) ≡ true → P (End (BadHeader (h .fault)) false)
+  by-fault j k g = m .fail (BadHeader (h .fault)) refl (record { fault = refl; judged = λ q. j; came = λ q. not-false ok k; bad = λ q. not-true _ g })
 
   by-phase : (f : Phase) → s .phase ≡ f → P (judgeBy f (testsOf (s .plan) (s .attempt) ok h))
   unfolding judgeBy firstOrder laterOrder testsOf
   by-phase First e =
-      pick-cases P (not ok) (λ k. m .fail BrokeItsWord refl)
-      (λ k. pick-cases P (not (faultless (h .fault))) (λ g. m .fail (BadHeader (h .fault)) refl)
-      (λ g. pick-cases P (showsNone (s .plan) h) (λ n. m .fail Nothing refl)
-      (λ n. pick-cases P (not (fitsRoom (s .plan) (h .last))) (λ r. m .fail NoRoom refl) (λ r. m .first e (not-false _ r)))))
+      pick-cases P (not ok) (λ k. m .fail BrokeItsWord refl (says-nothing BrokeItsWord refl refl))
+      (λ k. pick-cases P (not (faultless (h .fault))) (λ g. by-fault (ap judgedBy e) k g)
+      (λ g. pick-cases P (showsNone (s .plan) h) (λ n. m .fail Nothing refl (says-nothing Nothing refl refl))
+      (λ n. pick-cases P (not (fitsRoom (s .plan) (h .last))) (λ r. m .fail NoRoom refl (says-nothing NoRoom refl refl)) (λ r. m .first e (not-false _ r)))))
   by-phase (Chunk at) e = pick-cases P (not ok) (λ k. m .skip at e (not-true ok k)) (λ k. m .more at e (not-false _ k))
   by-phase (Close after) e =
-      pick-cases P (not ok) (λ k. m .fail BrokeItsWord refl)
-      (λ k. pick-cases P (not (faultless (h .fault))) (λ g. m .fail (BadHeader (h .fault)) refl)
-      (λ g. pick-cases P (showsNone (s .plan) h) (λ n. m .fail Withdrawn refl) (λ n. by-match after e)))
-  by-phase Ack e = pick-cases P (not ok) (λ k. m .fail BrokeItsWord refl) (λ k. m .done e (not-false _ k))
-  by-phase Ended e = m .fail BrokeItsWord refl
+      pick-cases P (not ok) (λ k. m .fail BrokeItsWord refl (says-nothing BrokeItsWord refl refl))
+      (λ k. pick-cases P (not (faultless (h .fault))) (λ g. by-fault (ap judgedBy e) k g)
+      (λ g. pick-cases P (showsNone (s .plan) h) (λ n. m .fail Withdrawn refl (says-nothing Withdrawn refl refl)) (λ n. by-match after e)))
+  by-phase Ack e = pick-cases P (not ok) (λ k. m .fail BrokeItsWord refl (says-nothing BrokeItsWord refl refl)) (λ k. m .done e (not-false _ k))
+  by-phase Ended e = m .fail BrokeItsWord refl (says-nothing BrokeItsWord refl refl)
 
   pub move-cases : P (moveOf s ok h)
   unfolding moveOf

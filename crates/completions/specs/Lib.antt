@@ -1,2 +1,3 @@
 pub mod Completions
 pub mod Touched
+pub mod Looked

@@ -1,2 +1,4 @@
 pub mod Answers
 pub mod Headers
+pub mod Faults
+pub mod Fields

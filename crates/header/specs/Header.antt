@@ -1,5 +1,5 @@
--- Document 01, "Header bytes, both pages" and, under "Host", when a header is bad, with what is at fault in it. One definition serves both pages: the page's number
--- is a field.
+-- Document 01, "Header bytes, both pages" and, under "Host", when a header is bad; and document 02, Q-2, what is at fault in it and where. One definition serves both
+-- pages: the page's number is a field.
 -- Assumes nothing.
 use Prim.Native.Nat.{ℕ}
 use mathlib.Core.List.{List, [], _∷_, _++_}
@@ -89,6 +89,18 @@ faultless Empty = false
 -- the paper's number of a check: every fault is a bad header
 abbrev pub answerOf : Fault → ℕ
 answerOf x = pick (faultless x) success badHeader
+
+-- the byte at which the field at fault starts: a length is told at byte 0, and available but empty at area 3's last block
+abbrev pub byteOf : ℕ → Fault → ℕ
+byteOf page None = 0
+byteOf page Length = 0
+byteOf page Identifier = 0
+byteOf page Area2 = 10
+byteOf page Area3 = 12
+byteOf page Area4 = 16
+byteOf page Scope = perPage page 380 381
+byteOf page Available = 382
+byteOf page Empty = 12
 
 -- the faults of a header's fields in their order, from what is as it should be
 abbrev pub faultOrder : Bool → Bool → Bool → Bool → Bool → Bool → Bool → List (Bool × Fault)

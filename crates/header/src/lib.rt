@@ -12,7 +12,7 @@ ghost use Rattle.copies.specs.Parts.{zeros};
 ghost use Rattle.littleendian.specs.Numbers.{foursOf};
 ghost use Rattle.pages.specs.Pages.{block};
 ghost use Rattle.header.specs.declared.Fault.the-variants.{None};
-ghost use Rattle.header.specs.Header.{numbers, marks, headerOf, fieldsOf, faultless, answerOf, faultOrder, fieldFault, noFields, checkOf};
+ghost use Rattle.header.specs.Header.{numbers, marks, headerOf, fieldsOf, faultless, answerOf, byteOf, faultOrder, fieldFault, noFields, checkOf};
 
 // What a header says. `hostgeneration` is the host generation, which an 08h header does not have: 0 there. `controllergeneration` is the controller
 // generation.
@@ -194,6 +194,23 @@ pub fn answer_of(x: Fault) -> u8
     ensures { λ r. ⌜ r ≡ answerOf x ⌝ }
 {
     choices::pick_u8(faultless(x), answers::SUCCESS, answers::BAD_HEADER)
+}
+
+// The byte at which the field at fault starts in a header of this page; 0 where nothing is at fault.
+pub fn byte_of(page: u8, x: Fault) -> u16
+    ensures { λ r. ⌜ r ≡ byteOf page x ⌝ }
+{
+    match x {
+        Fault::None => 0,
+        Fault::Length => 0,
+        Fault::Identifier => 0,
+        Fault::Area2 => 10,
+        Fault::Area3 => 12,
+        Fault::Area4 => 16,
+        Fault::Scope => if page == pages::HOST { 380 } else { 381 },
+        Fault::Available => 382,
+        Fault::Empty => 12,
+    }
 }
 
 // What a check answers of a header at fault: zeros in place of the fields.

@@ -19,9 +19,9 @@ use Rattle.state_layout.specs.Layout.{stateBytes, stateAt, stateIntact}
 use Rattle.next_layout.specs.Layout.{refusal, kindOf, nextBytes}
 use Rattle.host_boundary.specs.Boundary.{wordsList, stepAnswer, stateAfter, stepAt}
 
-pub check-is : {x y : Checked} {n : ℕ} {w : List ℕ} → x ≡ y → w ≡ fieldsBytes (x .fields) → n ≡ answerOf (x .fault)
-    → (n ≡ answerOf (y .fault)) × (w ≡ fieldsBytes (y .fields))
-check-is e w a = (a ∙ ap (λ (c : Checked). answerOf (c .fault)) e, w ∙ ap (λ (c : Checked). fieldsBytes (c .fields)) e)
+pub check-is : (page : ℕ) {x y : Checked} {n : ℕ} {w : List ℕ} → x ≡ y → w ≡ fieldsBytes page x → n ≡ answerOf (x .fault)
+    → (n ≡ answerOf (y .fault)) × (w ≡ fieldsBytes page y)
+check-is page e w a = (a ∙ ap (λ (c : Checked). answerOf (c .fault)) e, w ∙ ap (fieldsBytes page) e)
 
 pub words-are : {x y : Built} {w : List ℕ} → x ≡ y → w ≡ wordsList (x .words) → (x .answer ≡ y .answer) × (w ≡ wordsList (y .words))
 words-are e w = (ap (λ (b : Built). b .answer) e, w ∙ ap (λ (b : Built). wordsList (b .words)) e)

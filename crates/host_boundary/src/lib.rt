@@ -10,9 +10,9 @@ use plans::Plan;
 use words::Words;
 ghost use mathlib.Core.Path.{_≡_};
 ghost use Rattle.words.specs.Words.{builtOf};
-ghost use Rattle.header.specs.Header.{answerOf, checkOf};
+ghost use Rattle.header.specs.Header.{answerOf, byteOf, checkOf};
 ghost use Rattle.collection.specs.Collection.{setupOf};
-ghost use Rattle.shared_layouts.specs.Layouts.{fieldsBytes};
+ghost use Rattle.shared_layouts.specs.Layouts.{faultBy, fieldsBytes};
 ghost use Rattle.state_layout.specs.Layout.{stateBytes};
 ghost use Rattle.next_layout.specs.Layout.{kindOf, nextBytes};
 ghost use Rattle.host_boundary.specs.Boundary.{flagOf, wordsList, planOf, stateAfter, stepAnswer, stepAt};
@@ -23,19 +23,26 @@ fn words_list(w: Words) -> [u32; 5]
     [w.cdw10, w.cdw11, w.cdw12, w.cdw13, w.cdw14]
 }
 
-// Checks a header, and writes its fields, or zeros where it is bad.
+// Checks a header, and writes its fields, or what is at fault in it and zeros.
 #[no_mangle]
 pub extern "C" fn bumbazeel_check(page: u8, da4s: u8, h: &[u8], fields: &mut [u8; 156]) -> u8
     ensures { λ r. ⌜
         (r ≡ answerOf (checkOf page (flagOf da4s) (now (h .entry)) .fault))
-        × (now (fields .exit) ≡ fieldsBytes (checkOf page (flagOf da4s) (now (h .entry)) .fields))
+        × (now (fields .exit) ≡ fieldsBytes page (checkOf page (flagOf da4s) (now (h .entry))))
         ⌝ }
 {
     let x = header::check(page, da4s != 0, h);
-    let found = x.fields;
     let fault = x.fault;
-    *fields = shared_layouts::write_fields(found);
+    *fields = shared_layouts::write_fields(page, x);
     header::answer_of(fault)
+}
+
+// The byte at which a field, by its number, starts in a header of the page.
+#[no_mangle]
+pub extern "C" fn bumbazeel_field_byte(page: u8, field: u8) -> u16
+    ensures { λ r. ⌜ r ≡ byteOf page (faultBy field) ⌝ }
+{
+    header::byte_of(page, shared_layouts::fault_by(field))
 }
 
 // Builds the words of a command.

@@ -3,6 +3,8 @@
 use Prim.Native.Nat.{ℕ}
 use mathlib.Core.Bool.{Bool, false}
 use Rattle.answers.specs.Answers.{success, badHeader, noRoom, attemptsUsedUp, withdrawn, nothing, brokeItsWord}
+use Rattle.header.specs.declared.Fault.{Fault}
+use Rattle.header.specs.declared.Fault.the-variants.{None}
 use Rattle.judgement.specs.declared.Ending.{Ending}
 use Rattle.judgement.specs.declared.Ending.the-variants.{Success, BadHeader, NoRoom, UsedUp, Withdrawn, Nothing, BrokeItsWord}
 
@@ -25,3 +27,13 @@ newerOf UsedUp = false
 newerOf Withdrawn = false
 newerOf Nothing = false
 newerOf BrokeItsWord = false
+
+-- what is at fault in the header that it came by; nothing with any ending but a bad header's
+abbrev pub faultIn : Ending → Fault
+faultIn (Success unread) = None
+faultIn (BadHeader fault) = fault
+faultIn NoRoom = None
+faultIn UsedUp = None
+faultIn Withdrawn = None
+faultIn Nothing = None
+faultIn BrokeItsWord = None

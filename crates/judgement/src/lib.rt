@@ -7,7 +7,7 @@ use header::Fault;
 use plans::Phase;
 use plans::Plan;
 ghost use mathlib.Core.Path.{_≡_};
-ghost use Rattle.judgement.specs.Endings.{numberOf, newerOf};
+ghost use Rattle.judgement.specs.Endings.{numberOf, newerOf, faultIn};
 ghost use Rattle.judgement.specs.Judgement.{testsOf, firstOrder, matchOrder, laterOrder, ackOrder, chunkOrder, judgeBy};
 
 // An attempt: its number, from 1, and the generation and last blocks of its header.
@@ -71,6 +71,21 @@ pub fn newer(ending: Ending) -> bool
         Ending::Withdrawn => false,
         Ending::Nothing => false,
         Ending::BrokeItsWord => false,
+    }
+}
+
+// What is at fault in the header that an ending came by: nothing with any but a bad header's.
+pub fn fault(ending: Ending) -> Fault
+    ensures { λ r. ⌜ r ≡ faultIn ending ⌝ }
+{
+    match ending {
+        Ending::Success(_) => Fault::None,
+        Ending::BadHeader(fault) => fault,
+        Ending::NoRoom => Fault::None,
+        Ending::UsedUp => Fault::None,
+        Ending::Withdrawn => Fault::None,
+        Ending::Nothing => Fault::None,
+        Ending::BrokeItsWord => Fault::None,
     }
 }
 

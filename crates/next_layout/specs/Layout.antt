@@ -6,7 +6,8 @@ use Rattle.choices.specs.Choice.{one}
 use Rattle.littleendian.specs.Numbers.{bytesOf}
 use Rattle.words.specs.declared.Words.{Words}
 use Rattle.words.specs.Words.{noWords}
-use Rattle.judgement.specs.Endings.{numberOf, newerOf}
+use Rattle.judgement.specs.Endings.{numberOf, newerOf, faultIn}
+use Rattle.shared_layouts.specs.Layouts.{faultNumber}
 use Rattle.collection.specs.declared.Next.{Next}
 use Rattle.collection.specs.declared.Next.the-variants.{Send, End as Ends, Refuse}
 
@@ -25,10 +26,10 @@ kindOf (Send w) = send
 kindOf (Ends e) = ending
 kindOf (Refuse answer) = refusal
 
--- kind, answer, newer, words and count as 32 bytes
-unfoldable pub nextParts : ℕ → ℕ → ℕ → Words → ℕ → List ℕ
-nextParts kind answer newer w count =
-    (kind ∷ answer ∷ newer ∷ 0 ∷ [])
+-- kind, answer, newer, field at fault, words and count as 32 bytes
+unfoldable pub nextParts : ℕ → ℕ → ℕ → ℕ → Words → ℕ → List ℕ
+nextParts kind answer newer field w count =
+    (kind ∷ answer ∷ newer ∷ field ∷ [])
     ++ bytesOf 4 (w .cdw10)  -- 4
     ++ bytesOf 4 (w .cdw11)
     ++ bytesOf 4 (w .cdw12)
@@ -38,6 +39,6 @@ nextParts kind answer newer w count =
 
 -- what follows, as 32 bytes
 unfoldable pub nextBytes : Next → List ℕ
-nextBytes (Send w) = nextParts send 0 0 w 0
-nextBytes (Ends e) = nextParts ending (numberOf (e .ending)) (one (newerOf (e .ending))) noWords (e .count)
-nextBytes (Refuse answer) = nextParts refusal answer 0 noWords 0
+nextBytes (Send w) = nextParts send 0 0 0 w 0
+nextBytes (Ends e) = nextParts ending (numberOf (e .ending)) (one (newerOf (e .ending))) (faultNumber (faultIn (e .ending))) noWords (e .count)
+nextBytes (Refuse answer) = nextParts refusal answer 0 0 noWords 0

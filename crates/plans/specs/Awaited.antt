@@ -2,7 +2,7 @@
 -- for just what the phase asks for.
 -- Assumes nothing.
 use Prim.Native.Nat.{ℕ, _≤_}
-use mathlib.Core.Path.{_≡_, refl}
+use mathlib.Core.Path.{_≡_, refl, ap}
 use mathlib.Core.List.{List}
 use mathlib.Core.Bool.{Bool, true, false, not, _&&_, _||_}
 use native.Mathlib.Omega.{arith}
@@ -11,7 +11,7 @@ use borrow.Author.Tests.{le-leb}
 use Rattle.choices.specs.Choice.{pick}
 use Rattle.choices.specs.Tests.{holds, each, and-left, and-right, clash}
 use Rattle.answers.specs.Answers.{success}
-use Rattle.pages.specs.Pages.{most4}
+use Rattle.pages.specs.Pages.{block, most4}
 use Rattle.words.specs.declared.Command.{Command}
 use Rattle.words.specs.Words.{mostBlocks, taken, readOf}
 use Rattle.words.specs.Back.{meant, built-back}
@@ -19,8 +19,8 @@ use Rattle.plans.specs.declared.Ask.{Ask}
 use Rattle.plans.specs.declared.Plan.{Plan}
 use Rattle.plans.specs.declared.Phase.{Phase}
 use Rattle.plans.specs.declared.Phase.the-variants.{First, Chunk, Close, Ack, Ended}
-use Rattle.plans.specs.Phases.{firstBy, ackBy, endedBy}
-use Rattle.plans.specs.Plans.{planTests, setupAnswer, areaLast, fitsRoom, chunkBlocks, mcdaOf, asksFor, builtFor, wordsBy, insideBy, withinBy}
+use Rattle.plans.specs.Phases.{firstBy, judgedBy, ackBy, endedBy, closing-is, by-header}
+use Rattle.plans.specs.Plans.{planTests, setupAnswer, areaLast, fitsRoom, chunkBlocks, mcdaOf, asksFor, builtFor, wordsBy, expectedBy, insideBy, withinBy}
 use Rattle.plans.specs.Limits.{plan-taken, plan-limits, area-limit, chunk-inside, chunk-most, chunk-some}
 
 -- what each phase asks of the controller
@@ -34,6 +34,11 @@ commandBy f p last = meantFor (p .page) (asksFor f p last)
 pub record Awaits (f : Phase) (p : Plan) (last : List ℕ) : Type 0 where
   pub answer : builtFor (p .page) (asksFor f p last) .answer ≡ success
   pub reads : readOf true (wordsBy f p last) ≡ commandBy f p last
+
+-- a header that is judged has a block
+pub header-block : (f : Phase) (p : Plan) (last : List ℕ) → judgedBy f ≡ true → expectedBy f p last ≡ block
+header-block f p last e =
+    by-header f e (λ a. ap (λ (g : Phase). expectedBy g p last) a) (λ c. ap (λ (g : Phase). expectedBy g p last) (closing-is f c .is))
 
 -- RAE is 0 in the acknowledgement alone, and create goes with the first command alone
 pub asks-rae : (f : Phase) (p : Plan) (last : List ℕ) → asksFor f p last .rae ≡ not (ackBy f)

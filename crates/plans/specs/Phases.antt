@@ -2,7 +2,7 @@
 -- for another is said here once.
 -- Assumes nothing.
 use Prim.Native.Nat.{ℕ}
-use mathlib.Core.Path.{_≡_, refl, sym}
+use mathlib.Core.Path.{_≡_, refl, sym, ap}
 use mathlib.Core.Bool.{Bool, true, false, _||_}
 use Rattle.choices.specs.Tests.{clash}
 use Rattle.plans.specs.declared.Ask.{Ask}
@@ -77,6 +77,17 @@ closing-is (Chunk at) e = clash {t = true} refl (sym e)
 closing-is (Close after) e = record { judged = refl; no-ack = refl; going = refl; is = refl }
 closing-is Ack e = clash {t = true} refl (sym e)
 closing-is Ended e = clash {t = true} refl (sym e)
+
+-- a header that is judged is the first one or a closing one, and is not after the ending
+pub by-header : {A : Type 0} (f : Phase) → judgedBy f ≡ true → (f ≡ First → A) → (closingBy f ≡ true → A) → A
+by-header First e a c = a refl
+by-header (Chunk at) e a c = clash {t = true} refl (sym e)
+by-header (Close after) e a c = c refl
+by-header Ack e a c = clash {t = true} refl (sym e)
+by-header Ended e a c = clash {t = true} refl (sym e)
+
+pub judged-going : (f : Phase) → judgedBy f ≡ true → endedBy f ≡ false
+judged-going f e = by-header f e (λ p. ap endedBy p) (λ c. closing-is f c .going)
 
 -- by what is awaited
 pub by-phase : {A : Type 0} (f : Phase) → (f ≡ First → A) → ((at : ℕ) → f ≡ Chunk at → A) → (closingBy f ≡ true → A) → (f ≡ Ack → A)

@@ -153,7 +153,7 @@ Asked s ok e h m = makes s h m .next ≡ Ends e → (s .phase ≡ Ack) × (ok �
 asked : (s : Collection) (ok : Bool) (e : Finish) (h : Seen) → good (e .ending) ≡ true → s .plan .page ≡ controllerPage → Asked s ok e h (moveOf s ok h)
 unfolding makes
 asked s ok e h y c = move-cases (Asked s ok e h) s ok h (record {
-  fail = λ x l q. clash (ap good (ending-of q) ∙ y) l;
+  fail = λ x l t q. clash (ap good (ending-of q) ∙ y) l;
   large = λ f l q. clash (ap good (ending-of q) ∙ y) refl;
   first = λ f l q. not-sent q;
   again = λ f l r q. not-sent q;

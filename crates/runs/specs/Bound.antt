@@ -30,7 +30,8 @@ use Rattle.judgement.specs.declared.Move.the-variants.{End, Open, More, Skip, A
 use Rattle.plans.specs.Limits.{plan-limits, area-limit, chunk-inside}
 use Rattle.plans.specs.Phases.{judgedBy, endedBy, closingBy, silentBy, closing-is}
 use Rattle.plans.specs.Plans.{setupAnswer, areaLast, fitsRoom, insideBy, withinBy, phaseAt}
-use Rattle.completions.specs.Completions.{seenOf, lookBy}
+use Rattle.completions.specs.Completions.{seenOf}
+use Rattle.completions.specs.Looked.{look-header}
 use Rattle.turns.specs.Refusals.{mostCount}
 use Rattle.collection.specs.Collection.{validState, completionFits, lookOf, refusalOf, moveOf, setupOf, answerOf}
 use Rattle.collection.specs.Laws.{move-cases}
@@ -204,7 +205,7 @@ module _ (most : ℕ) (s : Collection) (h : Seen) (r : Reached most s) where
 
   leads : (ok : Bool) → Leads most s h (moveOf s ok h)
   leads ok = move-cases (Leads most s h) s ok h (record {
-    fail = λ e l. over e;
+    fail = λ e l t. over e;
     large = λ f l. large NoRoom f l;
     first = λ f w. first f w;
     again = λ f l w. again f l w;
@@ -225,15 +226,6 @@ reached-more most more s l r = record {
   inside = r .inside;
   few = few-more (s .phase) most more (s .count) (s .attempt .number) (s .plan) (s .attempt .last) l (r .low) (r .few);
 }
-
--- where a header is judged, the data is looked at as one
-pub look-header : (f : Phase) (p : Plan) (d : List ℕ) → judgedBy f ≡ true → lookBy f p d ≡ seenOf p d
-unfolding lookBy
-look-header First p d e = refl
-look-header (Chunk at) p d e = clash {t = true} refl (sym e)
-look-header (Close after) p d e = refl
-look-header Ack p d e = clash {t = true} refl (sym e)
-look-header Ended p d e = clash {t = true} refl (sym e)
 
 -- a step keeps it, where a header that it judges calls for at most most chunks
 pub step-reached : (most : ℕ) (s : Collection) (k : Completion) → Reached most s

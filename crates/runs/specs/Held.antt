@@ -334,7 +334,7 @@ module _ (p : Plan) (first : List ℕ) (h : Held) (k : Reply) (w : Seen) (i : Ho
   keeps : Kept p first (heldMade h k w (moveOf (h .state) (k .ok) w))
   unfolding makes
   keeps = move-cases (λ (m : Move). Kept p first (heldMade h k w m)) (h .state) (k .ok) w (record {
-    fail = λ e l. fails e false l;
+    fail = λ e l t. fails e false l;
     large = λ f l. fails NoRoom true refl;
     first = λ f l. opens false (rw f);
     again = λ f l e. opens true (rw (closing-is (h .state .phase) f .is, at-no-ack 1 (areaLast (h .state .plan) (w .last))));

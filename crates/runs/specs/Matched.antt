@@ -19,6 +19,7 @@ use Rattle.plans.specs.Phases.{judgedBy, closing-is}
 use Rattle.plans.specs.Plans.{setupAnswer, areaLast, phaseAt}
 use Rattle.completions.specs.declared.Seen.{Seen}
 use Rattle.completions.specs.Completions.{seenOf}
+use Rattle.completions.specs.Looked.{look-header}
 use Rattle.judgement.specs.declared.Attempt.{Attempt}
 use Rattle.judgement.specs.declared.Ending.{Ending}
 use Rattle.judgement.specs.declared.Ending.the-variants.{NoRoom}
@@ -35,7 +36,6 @@ use Rattle.collection.specs.Laws.{move-cases}
 use Rattle.collection.specs.Steps.{makes, setup-taken, refused-step, taken-step}
 use Rattle.runs.specs.Run.{Completion, stepBy, after, stateOf, headersOf}
 use Rattle.runs.specs.Counted.{plan-stays}
-use Rattle.runs.specs.Bound.{look-header}
 
 -- headers of which the last two show the same generation and the same four last blocks
 pub record Paired (p : Plan) (hs : List (List ℕ)) : Type 0 where
@@ -130,7 +130,7 @@ module _ (s : Collection) (k : Completion) (hs : List (List ℕ)) (i : At (s .ph
   moved : After (moveOf s (k .ok) h)
   unfolding makes
   moved = move-cases After s (k .ok) h (record {
-    fail = λ e l. tt;
+    fail = λ e l t. tt;
     large = λ c l. tt;
     first = λ f r. opens false (ap judgedBy f);
     again = λ c l r. opens true (closing-is (s .phase) c .judged);
@@ -169,7 +169,7 @@ module _ (s : Collection) (k : Completion) (hs : List (List ℕ)) (i : At (s .ph
         (λ r.
         rw r
         (move-cases Pairs s (k .ok) h (record {
-          fail = λ x l. not-so x false l;
+          fail = λ x l t. not-so x false l;
           large = λ c l. not-so NoRoom true refl;
           first = λ f r x. not-sent x;
           again = λ c l r x. not-sent x;

@@ -96,7 +96,7 @@ Gave s h w m = makes s h m .next ≡ Send w → Gives s (makes s h m) w
 gave : (s : Collection) (ok : Bool) (h : Seen) (w : Words) → Gave s h w (moveOf s ok h)
 unfolding makes awaitedOf
 gave s ok h w = move-cases (Gave s h w) s ok h (record {
-  fail = λ n l q. not-sent (sym q);
+  fail = λ n l t q. not-sent (sym q);
   large = λ f l q. not-sent (sym q);
   first = λ f r q. record {
     awaits = same-words q;
@@ -168,7 +168,7 @@ record Silent (x : Stepped) : Type 0 where
 silent : (s : Collection) (ok : Bool) (h : Seen) → silentBy (s .phase) ≡ true → Silent (makes s h (moveOf s ok h))
 unfolding makes
 silent s ok h e = move-cases (λ (m : Move). Silent (makes s h m)) s ok h (record {
-  fail = λ n l. record { gives = refl; stays = refl };
+  fail = λ n l t. record { gives = refl; stays = refl };
   large = λ f l. record { gives = refl; stays = refl };
   first = λ f r. clash {t = true} refl (sym (rw f at e));
   again = λ f l r. let q = closing-is (s .phase) f in clash e (rw (q .no-ack, q .going));

@@ -2,8 +2,8 @@
 -- header's fields come to its bytes.
 -- Assumes nothing.
 use Prim.Native.Nat.{ℕ, zero, suc, _+_, _*_, _/_, _%_, _≤_, _<_}
-use mathlib.Core.Path.{_≡_, refl, sym, ap, _∙_}
-use mathlib.Core.List.{List, [], _∷_, _++_}
+use mathlib.Core.Path.{_≡_, refl, ap, _∙_}
+use mathlib.Core.List.{List, _++_}
 use mathlib.Core.Bool.{Bool, true, false}
 use native.Mathlib.Omega.{arith}
 use native.Mathlib.Nat.{mod-eq-of-lt, div-div-eq-div-mul}
@@ -16,8 +16,8 @@ use Rattle.copies.specs.Parts.{zeros, putAt, put-end}
 use Rattle.littleendian.specs.Numbers.{bytesOf, foursOf}
 use Rattle.littleendian.specs.Puts.{then}
 use Rattle.pages.specs.declared.Caps.{Caps}
-use Rattle.header.specs.declared.Fields.{Fields}
-use Rattle.shared_layouts.specs.Layouts.{mostCaps, capsByte, capBit, capsOf, fieldsFront, fieldsBytes}
+use Rattle.header.specs.declared.Checked.{Checked}
+use Rattle.shared_layouts.specs.Layouts.{mostCaps, capsByte, capBit, capsOf, fieldsMarks, fieldsFront, fieldsBytes}
 
 pub one-most : (t : Bool) → one t ≤ 1
 one-most true = omega arith
@@ -101,20 +101,18 @@ one-kept zero e = refl
 one-kept (suc zero) e = refl
 one-kept (suc (suc n)) e = let h = leb-true (suc (suc n)) 1 e in absurd (omega arith)
 
-fields-front : (f : Fields) {p q : List ℕ}
-    → p ≡ putAt (f .page ∷ f .scope ∷ f .hostgeneration ∷ f .tcda ∷ f .controllergeneration ∷ zeros 151) 8 (bytesOf 4 (f .oui))
-    → q ≡ putAt p 12 (foursOf (f .last))
-    → q ≡ fieldsFront f ++ zeros 128
+fields-front : (page : ℕ) (x : Checked) {m p q : List ℕ} → m ≡ putAt (zeros 156) 0 (fieldsMarks page x)
+    → p ≡ putAt m 8 (bytesOf 4 (x .fields .oui)) → q ≡ putAt p 12 (foursOf (x .fields .last))
+    → q ≡ fieldsFront page x ++ zeros 128
 unfolding putAt
-fields-front f e1 e2 = then 12 (foursOf (f .last)) e1 e2
+fields-front page x e0 e1 e2 = then 12 (foursOf (x .fields .last)) (then 8 (bytesOf 4 (x .fields .oui)) e0 e1) e2
 
--- a header's fields
-pub fields-is : (f : Fields) {p q r : List ℕ} → length (f .reason) ≡ 128
-    → p ≡ putAt (f .page ∷ f .scope ∷ f .hostgeneration ∷ f .tcda ∷ f .controllergeneration ∷ zeros 151) 8 (bytesOf 4 (f .oui))
-    → q ≡ putAt p 12 (foursOf (f .last)) → r ≡ putAt q 28 (f .reason)
-    → r ≡ fieldsBytes f
+-- what a check answers
+pub fields-is : (page : ℕ) (x : Checked) {k m p q r : List ℕ} → length (x .fields .reason) ≡ 128 → k ≡ fieldsMarks page x → m ≡ putAt (zeros 156) 0 k
+    → p ≡ putAt m 8 (bytesOf 4 (x .fields .oui)) → q ≡ putAt p 12 (foursOf (x .fields .last)) → r ≡ putAt q 28 (x .fields .reason)
+    → r ≡ fieldsBytes page x
 unfolding fieldsBytes
-fields-is f l e1 e2 e3 =
+fields-is page x l k e0 e1 e2 e3 =
     e3
-    ∙ ap (λ (x : List ℕ). putAt x 28 (f .reason)) (fields-front f e1 e2)
-    ∙ put-end (fieldsFront f ++ zeros 128) (f .reason) 28 (omega arith)
+    ∙ ap (λ (y : List ℕ). putAt y 28 (x .fields .reason)) (fields-front page x (e0 ∙ ap (putAt (zeros 156) 0) k) e1 e2)
+    ∙ put-end (fieldsFront page x ++ zeros 128) (x .fields .reason) 28 (omega arith)

@@ -1,14 +1,17 @@
 -- What the structs of include/bumbazeel.h on both sides are made of, and the struct of a header's fields (156 bytes). Numbers are
--- little-endian, a yes or no is 1 or 0, and the named zero bytes are 0.
+-- little-endian, and a yes or no is 1 or 0.
 -- Assumes nothing.
 use Prim.Native.Nat.{ℕ, _+_, _/_, _%_}
 use mathlib.Core.List.{List, [], _∷_, _++_}
 use mathlib.Core.Bool.{Bool, _&&_}
 use lib.Dec.{leb, eqb}
-use Rattle.choices.specs.Choice.{pick}
+use Rattle.choices.specs.Choice.{pick, firstThat}
 use Rattle.littleendian.specs.Numbers.{bytesOf, foursOf}
 use Rattle.pages.specs.declared.Caps.{Caps}
-use Rattle.header.specs.declared.Fields.{Fields}
+use Rattle.header.specs.declared.Fault.{Fault}
+use Rattle.header.specs.declared.Fault.the-variants.{None, Length, Identifier, Area2, Area3, Area4, Scope, Available, Empty}
+use Rattle.header.specs.declared.Checked.{Checked}
+use Rattle.header.specs.Header.{byteOf}
 
 -- ---- yes or no, and capabilities
 
@@ -30,13 +33,51 @@ capsOf b = record { extended = capBit b b; telemetry = capBit b (b / 2); da4s = 
 
 -- ---- struct bumbazeel_fields
 
--- what stands before the reason
-abbrev pub fieldsFront : Fields → List ℕ
-fieldsFront f =
-    (f .page ∷ f .scope ∷ f .hostgeneration ∷ f .tcda ∷ f .controllergeneration ∷ 0 ∷ 0 ∷ 0 ∷ [])
-    ++ bytesOf 4 (f .oui)  -- 8
-    ++ foursOf (f .last)  -- 12
+-- the number of what is at fault: its place in the order of the check
+abbrev pub faultNumber : Fault → ℕ
+faultNumber None = 0
+faultNumber Length = 1
+faultNumber Identifier = 2
+faultNumber Area2 = 3
+faultNumber Area3 = 4
+faultNumber Area4 = 5
+faultNumber Scope = 6
+faultNumber Available = 7
+faultNumber Empty = 8
 
--- a header's fields as 156 bytes
-unfoldable pub fieldsBytes : Fields → List ℕ
-fieldsBytes f = fieldsFront f ++ f .reason
+-- what is at fault, by its number; nothing by 0 and by any number over 8
+unfoldable pub faultBy : ℕ → Fault
+faultBy n =
+    firstThat
+    ((eqb n 1, Length)
+    ∷ (eqb n 2, Identifier)
+    ∷ (eqb n 3, Area2)
+    ∷ (eqb n 4, Area3)
+    ∷ (eqb n 5, Area4)
+    ∷ (eqb n 6, Scope)
+    ∷ (eqb n 7, Available)
+    ∷ (eqb n 8, Empty)
+    ∷ [])
+    None
+
+-- of a check for this page, the first eight bytes
+abbrev pub fieldsMarks : ℕ → Checked → List ℕ
+fieldsMarks page x =
+    x .fields .page
+    ∷ x .fields .scope
+    ∷ x .fields .hostgeneration
+    ∷ x .fields .tcda
+    ∷ x .fields .controllergeneration
+    ∷ faultNumber (x .fault)
+    ∷ bytesOf 2 (byteOf page (x .fault))  -- 6
+
+-- what stands before the reason
+abbrev pub fieldsFront : ℕ → Checked → List ℕ
+fieldsFront page x =
+    fieldsMarks page x
+    ++ bytesOf 4 (x .fields .oui)  -- 8
+    ++ foursOf (x .fields .last)  -- 12
+
+-- what a check for this page answers, as 156 bytes: the fields, and what is at fault with the byte where it starts
+unfoldable pub fieldsBytes : ℕ → Checked → List ℕ
+fieldsBytes page x = fieldsFront page x ++ x .fields .reason

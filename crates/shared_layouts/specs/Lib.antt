@@ -1,2 +1,3 @@
 pub mod Layouts
 pub mod Back
+pub mod Faults

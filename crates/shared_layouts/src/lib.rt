@@ -1,14 +1,16 @@
-// What the structs of include/bumbazeel.h on both sides are made of: a yes or no and capabilities as bytes; and the struct of a header's
-// fields.
+// What the structs of include/bumbazeel.h on both sides are made of: a yes or no, capabilities and what is at fault in a header as bytes; and the
+// struct of a header's fields.
 //
 // It rests on choices, copies, littleendian, pages and header. It promises that each is written to exactly the bytes of
-// specs/Layouts.antt, and that capabilities read back to what they were and a byte of five bits to itself (specs/Back.antt).
-use header::Fields;
+// specs/Layouts.antt, and that capabilities read back to what they were and a byte of five bits to itself (specs/Back.antt), and so does a fault, and a
+// number up to 8, which is the fault's place in the order of the check (specs/Faults.antt).
+use header::Checked;
+use header::Fault;
 use pages::Caps;
 ghost use mathlib.Core.Path.{_≡_};
 ghost use Prim.Native.Nat.{_≤_};
 ghost use Rattle.choices.specs.Choice.{pick};
-ghost use Rattle.shared_layouts.specs.Layouts.{capsByte, capsOf, fieldsBytes};
+ghost use Rattle.shared_layouts.specs.Layouts.{capsByte, capsOf, faultNumber, faultBy, fieldsMarks, fieldsBytes};
 
 // The greatest byte of capabilities.
 pub const MOST_CAPS: u8 = 31;
@@ -41,18 +43,68 @@ pub fn read_caps(b: u8) -> Caps
     }
 }
 
-// A header's fields as bytes.
-pub fn write_fields(f: Fields) -> [u8; 156]
-    ensures { λ x. ⌜ x ≡ fieldsBytes f ⌝ }
+// The number of what is at fault in a header.
+pub fn fault_number(x: Fault) -> u8
+    ensures { λ r. ⌜ r ≡ faultNumber x ⌝ }
 {
+    match x {
+        Fault::None => 0,
+        Fault::Length => 1,
+        Fault::Identifier => 2,
+        Fault::Area2 => 3,
+        Fault::Area3 => 4,
+        Fault::Area4 => 5,
+        Fault::Scope => 6,
+        Fault::Available => 7,
+        Fault::Empty => 8,
+    }
+}
+
+// What is at fault, by its number; nothing by 0 and by any number over 8.
+pub fn fault_by(n: u8) -> Fault
+    ensures { λ r. ⌜ r ≡ faultBy n ⌝ }
+{
+    match n {
+        1 => Fault::Length,
+        2 => Fault::Identifier,
+        3 => Fault::Area2,
+        4 => Fault::Area3,
+        5 => Fault::Area4,
+        6 => Fault::Scope,
+        7 => Fault::Available,
+        8 => Fault::Empty,
+        _ => Fault::None,
+    }
+}
+
+fn fields_marks(page: u8, x: Checked) -> [u8; 8]
+    ensures { λ b. ⌜ b ≡ fieldsMarks page x ⌝ }
+{
+    let fault = x.fault;
+    let f = x.fields;
+    let number = fault_number(fault);
+    let byte = header::byte_of(page, fault);
+    [
+        f.page,
+        f.scope,
+        f.hostgeneration,
+        f.tcda,
+        f.controllergeneration,
+        number,
+        (byte % 256) as u8,
+        (byte / 256 % 256) as u8,
+    ]
+}
+
+// What a check for this page answers, as bytes.
+pub fn write_fields(page: u8, x: Checked) -> [u8; 156]
+    ensures { λ b. ⌜ b ≡ fieldsBytes page x ⌝ }
+{
+    let f = x.fields;
     let last = f.last;
     let reason = f.reason;
     let mut out = [0u8; 156];
-    out[0] = f.page;
-    out[1] = f.scope;
-    out[2] = f.hostgeneration;
-    out[3] = f.tcda;
-    out[4] = f.controllergeneration;
+    copies::put(&fields_marks(page, x), &mut out, 0);
     littleendian::put4(&mut out, 8, f.oui);
     littleendian::put_fours(&mut out, 12, last);
     littleendian::put_reason(&mut out, 28, reason);

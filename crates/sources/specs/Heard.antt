@@ -9,15 +9,14 @@ use lib.ListN.{length, length-append}
 use lib.Dec.{leb}
 use borrow.Author.Tests.{leb-true, leb-false, eq-eqb}
 use Rattle.choices.specs.Choice.{pick, pick-cases, larger-left, larger-right}
-use Rattle.choices.specs.Tests.{clash}
 use Rattle.copies.specs.Parts.{zeros}
 use Rattle.answers.specs.Answers.{success}
-use Rattle.pages.specs.Pages.{block, most4}
+use Rattle.pages.specs.Pages.{most4}
 use Rattle.plans.specs.declared.Plan.{Plan}
 use Rattle.plans.specs.declared.Phase.{Phase}
 use Rattle.plans.specs.declared.Phase.the-variants.{First, Chunk, Close, Ack, Ended}
 use Rattle.plans.specs.Phases.{judgedBy, endedBy}
-use Rattle.plans.specs.Plans.{areaLast, expectedBy, phaseAt}
+use Rattle.plans.specs.Plans.{areaLast, phaseAt}
 use Rattle.collection.specs.Collection.{expectedOf, completionFits, refusalOf, numberIn, ends, stepOf, copyAfter}
 use Rattle.collection.specs.Steps.{endedIn}
 use Rattle.judgement.specs.declared.Ending.{Ending}
@@ -38,21 +37,6 @@ pub takes : (c : Collection) (ok : Bool) (d : List ℕ) (n : ℕ) → Reached mo
     → length d ≡ pick ok (expectedOf c) 0 → refusalOf c ok (length d) n ≡ success
 unfolding refusalOf completionFits
 takes c ok d n r g l e = rw (g, reached-ok c r, eq-eqb n (c .plan .room) l, eq-eqb (length d) (pick ok (expectedOf c) 0) e)
-
--- a header has a block
-pub header-block : (f : Phase) (p : Plan) (last : List ℕ) → judgedBy f ≡ true → expectedBy f p last ≡ block
-header-block First p last e = refl
-header-block (Chunk at) p last e = clash {t = true} refl (sym e)
-header-block (Close after) p last e = refl
-header-block Ack p last e = clash {t = true} refl (sym e)
-header-block Ended p last e = clash {t = true} refl (sym e)
-
-pub header-going : (f : Phase) → judgedBy f ≡ true → endedBy f ≡ false
-header-going First e = refl
-header-going (Chunk at) e = refl
-header-going (Close after) e = refl
-header-going Ack e = refl
-header-going Ended e = sym e
 
 module _ (D : Source) (p : Plan) (K : Keeps D p) where
   -- the chunk at a block or the closing header, by how many blocks are done

@@ -20,9 +20,11 @@ use Rattle.plans.specs.declared.Plan.{Plan}
 use Rattle.plans.specs.declared.Phase.{Phase}
 use Rattle.plans.specs.declared.Phase.the-variants.{First, Chunk, Ack}
 use Rattle.completions.specs.declared.Seen.{Seen}
-use Rattle.plans.specs.Phases.{judgedBy, closingBy, refusedBy}
+use Rattle.plans.specs.Phases.{judgedBy, closingBy, refusedBy, judged-going}
 use Rattle.plans.specs.Plans.{areaLast, areaBytes, fitsRoom}
+use Rattle.plans.specs.Awaited.{header-block}
 use Rattle.completions.specs.Completions.{showsNone}
+use Rattle.completions.specs.Looked.{look-header}
 use Rattle.judgement.specs.Judgement.{matches}
 use Rattle.collection.specs.Collection.{awaitedOf, expectedOf, lookOf, refusalOf, numberIn, sends, ends}
 use Rattle.collection.specs.Steps.{inPhase, openedBy, endedIn, first-none, first-large, first-opens, later-none, later-done, later-acknowledges, later-large, later-opens}
@@ -31,12 +33,11 @@ use Rattle.collection.specs.declared.Collection.{Collection}
 use Rattle.collection.specs.declared.Next.the-variants.{Send}
 use Rattle.collection.specs.declared.Stepped.{Stepped}
 use Rattle.collection.specs.Copied.{ending-copy, sending-copy}
-use Rattle.runs.specs.Bound.{look-header}
 use Rattle.sources.specs.Source.{Source, ours, Done, heard, Stand, forLent, fine, dataOf, stepped, hears}
 use Rattle.sources.specs.Keeps.{Keeps, Header}
 use Rattle.sources.specs.Promise.{Told, succeeded, lacked, withdrew, empty}
 use Rattle.sources.specs.Inv.{Common, Still, SameLast, Opened, Mid, Had, Inv}
-use Rattle.sources.specs.Heard.{takes, header-block, header-going, at-phase, step, copied, finish, zeroed, ended}
+use Rattle.sources.specs.Heard.{takes, at-phase, step, copied, finish, zeroed, ended}
 
 header-no-chunk : (f : Phase) (at : ℕ) → judgedBy f ≡ true → f ≡ Chunk at → ⊥
 header-no-chunk f at e q = clash {t = true} refl (sym (rw q at e))
@@ -62,7 +63,7 @@ module _ (D : Source) (p : Plan) (K : Keeps D p) (s : Stand D) (o : Done (D .Sta
   taken : refusalOf state (fine o) (length (dataOf o)) (length (s .copy)) ≡ success
   unfolding expectedOf
   taken =
-      takes state (fine o) (dataOf o) (length (s .copy)) (c .house) (header-going (state .phase) f) (c .size ∙ ap (λ (q : Plan). q .room) (sym (c .plan)))
+      takes state (fine o) (dataOf o) (length (s .copy)) (c .house) (judged-going (state .phase) f) (c .size ∙ ap (λ (q : Plan). q .room) (sym (c .plan)))
       (rw is-data (rw is-fine (hdr .long ∙ sym (header-block (state .phase) (state .plan) (state .attempt .last) f))))
 
   sound : faultless (lookOf state (dataOf o) .fault) ≡ true

@@ -1,9 +1,10 @@
 // Every ending of a collection and every answer of setup and step, each driven once by real steps, with two that would apply at the same
-// time wherever the paper gives an order. Of each it writes the answer, the number of commands and what the copy holds. The file stdout
-// beside src/ has what the paper says.
+// time wherever the paper gives an order. Of each it writes the answer, what is at fault in a bad header, the number of commands and what the
+// copy holds. The file stdout beside src/ has what the papers say.
 use collection::Collection;
 use collection::Next;
 use collection::Stepped;
+use header::Fault;
 use header::Fields;
 use judgement::Attempt;
 use libc::STDOUT_FILENO;
@@ -83,6 +84,21 @@ fn copy_is(copy: &[u8]) {
     }
 }
 
+// What is at fault in a header, if anything is.
+fn show_fault(fault: Fault) {
+    match fault {
+        Fault::None => (),
+        Fault::Length => say(b" length"),
+        Fault::Identifier => say(b" identifier"),
+        Fault::Area2 => say(b" area 2"),
+        Fault::Area3 => say(b" area 3"),
+        Fault::Area4 => say(b" area 4"),
+        Fault::Scope => say(b" scope"),
+        Fault::Available => say(b" TCDA"),
+        Fault::Empty => say(b" available but empty"),
+    }
+}
+
 fn show_next(next: Next) {
     match next {
         Next::Send(_) => say(b"sent"),
@@ -90,6 +106,7 @@ fn show_next(next: Next) {
             let ending = e.ending;
             say(b"ended ");
             decimal(judgement::number(ending) as u64);
+            show_fault(judgement::fault(ending));
             if judgement::newer(ending) {
                 say(b" newer");
             }
@@ -190,6 +207,11 @@ fn firsts() {
         b"of another page and TCDA 0",
         Completion::Header(0x07, 5, 0, 5),
     );
+    first(
+        b"area 1 past area 2, TCDA 2",
+        Completion::Header(0x08, 10, 2, 5),
+    );
+    first(b"five blocks, TCDA 2", Completion::Header(0x08, 5, 2, 5));
     first(b"TCDA 0 and five blocks", Completion::Header(0x08, 5, 0, 5));
     first(b"five blocks", Completion::Header(0x08, 5, 1, 5));
     first(b"four blocks", Completion::Header(0x08, 4, 1, 5));
@@ -228,6 +250,26 @@ fn closings() {
         0x08,
         1,
         Completion::Header(0x08, 3, 0, 6),
+    );
+}
+
+// A later header at fault, with the attempt's generation and without.
+fn bad_closings() {
+    closing(
+        b"TCDA 2 on 07h, else a match",
+        0x07,
+        1,
+        Completion::Header(0x07, 3, 2, 5),
+    );
+    closing(
+        b"area 1 past area 2, the last attempt's mismatch",
+        0x08,
+        1,
+        Completion::Header(0x08, 10, 1, 6),
+    );
+    closing_broken(
+        b"TCDA 2 after a refused chunk",
+        Completion::Header(0x08, 3, 2, 5),
     );
 }
 
@@ -383,6 +425,7 @@ fn main() {
     setups();
     firsts();
     closings();
+    bad_closings();
     matches();
     other_blocks();
     acknowledgements();

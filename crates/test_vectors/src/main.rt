@@ -1,5 +1,5 @@
-// The rows and vectors of document 01 that concern the words, the pages, the headers and the classes, run by the compiled code. The
-// file stdout beside src/ has what the paper says of each.
+// The rows and vectors of document 01 that concern the words, the pages, the headers and the classes, and document 02's order of faults in a header (Q-2), run by
+// the compiled code. The file stdout beside src/ has what the papers say of each.
 use header::Fields;
 use libc::STDOUT_FILENO;
 use pages::Caps;
@@ -170,6 +170,8 @@ fn check(page: u8, da4s: bool, h: &[u8]) {
     let fault = k.fault;
     let f = k.fields;
     decimal(header::answer_of(fault) as u64);
+    byte(b" field ", shared_layouts::fault_number(fault));
+    number(b" at ", header::byte_of(page, fault) as usize);
     fields(f);
 }
 
@@ -183,8 +185,11 @@ fn check_part(page: u8, h: &[u8], end: usize) {
     }
 }
 
-fn check_cut(page: u8, h: &[u8; 512]) {
-    check_part(page, h, 511);
+// The header's first bytes, of which it may have one more than 512.
+fn check_cut(page: u8, h: &[u8; 512], bytes: usize) {
+    let mut longer = [0u8; 513];
+    copies::put(h, &mut longer, 0);
+    check_part(page, &longer, bytes);
 }
 
 fn check_with(page: u8, at: usize, byte: u8) {
@@ -325,24 +330,143 @@ fn good_headers() {
     check_with(0x08, 382, 0);
 }
 
+// A header with no block, but for one byte.
+fn check_bare(page: u8, da4s: bool, at: usize, byte: u8) {
+    let mut h = [0u8; 512];
+    h[0] = page;
+    if at < 512 {
+        h[at] = byte;
+    }
+    check_whole(page, da4s, &h);
+}
+
+fn bad_lengths() {
+    let host = sample(0x07);
+    say(b"bad: lengths 0, 511 and 513; 513 asked for as 08h, and as 09h\n");
+    check_cut(0x07, &host, 0);
+    check_cut(0x07, &host, 511);
+    check_cut(0x07, &host, 513);
+    check_cut(0x08, &host, 513);
+    check_cut(0x09, &host, 513);
+}
+
+fn bad_areas() {
+    say(
+        b"bad: a1 > a2, a2 > a3, a4 < a3, a4 over its limit, a4 alone, a4 without DA4S; 08h available but empty, and with TCDA 2\n",
+    );
+    check_with(0x07, 8, 3);
+    check_with(0x08, 12, 1);
+    check_with(0x07, 16, 4);
+    check_with(0x08, 19, 1);
+    check_bare(0x07, true, 16, 1);
+    check_bare(0x08, false, 16, 1);
+    check_bare(0x08, false, 382, 1);
+    check_bare(0x08, true, 382, 2);
+}
+
 fn bad_headers() {
     let host = sample(0x07);
     say(
-        b"bad: length, identifier, a page asked for that is none, a1 > a2, a4 without DA4S, scope 3, TCDA 2, 08h available but empty\n",
+        b"bad: identifier, a page asked for that is none, scope 3 of 07h and of 08h, TCDA 2 of 07h and of 08h\n",
     );
-    check_cut(0x07, &host);
     check_whole(0x08, true, &host);
-    let mut none = [0u8; 512];
-    none[0] = 0x09;
-    check_whole(0x09, true, &none);
-    check_with(0x07, 9, 1);
-    check_whole(0x07, false, &host);
+    check_bare(0x09, true, 0, 0x09);
+    check_with(0x07, 380, 3);
     check_with(0x08, 381, 3);
     check_with(0x07, 382, 2);
-    let mut empty = [0u8; 512];
-    empty[0] = 0x08;
-    empty[382] = 1;
-    check_whole(0x08, false, &empty);
+    check_with(0x08, 382, 2);
+}
+
+// Whether a fault, by its number, is one of two.
+fn has(i: u8, j: u8, fault: u8) -> bool {
+    (i == fault) | (j == fault)
+}
+
+// Last blocks with the faults 3, 4, 5 and 8 of two: area 1 ends after area 2, area 2 after area 3, area 4 over its limit, and area 3 has no block. Else they
+// are (2,2,5,9), or zeros; a4 is 0 without DA4S.
+fn spoilt_last(da4s: bool, i: u8, j: u8) -> [u32; 4] {
+    let none = has(i, j, 8);
+    let plain = choices::pick_u32(none, 0, 2);
+    let a1 = choices::pick_u32(has(i, j, 3), 7, plain);
+    let a2 = choices::pick_u32(has(i, j, 4), 6, plain);
+    let a3 = choices::pick_u32(none, 0, 5);
+    let a4 = choices::pick_u32(da4s & !none, 9, 0);
+    [a1, a2, a3, choices::pick_u32(has(i, j, 5), 1048577, a4)]
+}
+
+// A header of the page with the two faults but for the length, which is not made here.
+fn spoilt(page: u8, da4s: bool, i: u8, j: u8) -> [u8; 512] {
+    let last = spoilt_last(da4s, i, j);
+    let mut h = header::write(Fields {
+        page,
+        oui: 0x123456,
+        last,
+        scope: choices::pick_u8(has(i, j, 6), 3, 2),
+        hostgeneration: 255,
+        tcda: choices::pick_u8(has(i, j, 7), 2, 1),
+        controllergeneration: 7,
+        reason: [3; 128],
+    });
+    h[0] = choices::pick_u8(has(i, j, 2), 0x09, page);
+    h
+}
+
+// The number of what is found at fault in the first bytes of a header.
+fn found_in(page: u8, da4s: bool, h: &[u8], bytes: usize) {
+    if bytes <= h.len() {
+        let k = header::check(page, da4s, &h[0..bytes]);
+        let fault = k.fault;
+        byte(b" ", shared_layouts::fault_number(fault));
+    }
+}
+
+fn pair(page: u8, da4s: bool, bytes: usize, i: u8, j: u8) {
+    let mut longer = [0u8; 513];
+    copies::put(&spoilt(page, da4s, i, j), &mut longer, 0);
+    found_in(
+        page,
+        da4s,
+        &longer,
+        choices::pick_usize(has(i, j, 1), bytes, 512),
+    );
+}
+
+// A fault beside each of the eight.
+fn row(page: u8, da4s: bool, bytes: usize, i: u8) {
+    byte(b"", i);
+    letter(b':');
+    pair(page, da4s, bytes, i, 1);
+    pair(page, da4s, bytes, i, 2);
+    pair(page, da4s, bytes, i, 3);
+    pair(page, da4s, bytes, i, 4);
+    pair(page, da4s, bytes, i, 5);
+    pair(page, da4s, bytes, i, 6);
+    pair(page, da4s, bytes, i, 7);
+    pair(page, da4s, bytes, i, 8);
+    newline();
+}
+
+fn pairs(label: &[u8], page: u8, da4s: bool, bytes: usize) {
+    say(label);
+    newline();
+    row(page, da4s, bytes, 1);
+    row(page, da4s, bytes, 2);
+    row(page, da4s, bytes, 3);
+    row(page, da4s, bytes, 4);
+    row(page, da4s, bytes, 5);
+    row(page, da4s, bytes, 6);
+    row(page, da4s, bytes, 7);
+    row(page, da4s, bytes, 8);
+}
+
+fn faults() {
+    say(
+        b"what is told of two faults: 1 length, 2 identifier, 3 to 5 areas 2 to 4, 6 scope, 7 TCDA, 8 available but empty, which is none on 07h\n",
+    );
+    pairs(b"07h with DA4S, the length 511", 0x07, true, 511);
+    pairs(b"07h without, the length 513", 0x07, false, 513);
+    pairs(b"08h with DA4S, the length 513", 0x08, true, 513);
+    pairs(b"08h without, the length 511", 0x08, false, 511);
 }
 
 fn main() {
@@ -354,5 +478,8 @@ fn main() {
     sizes();
     rules();
     good_headers();
+    bad_lengths();
     bad_headers();
+    bad_areas();
+    faults();
 }

@@ -15,7 +15,7 @@ answer-of-requires : tie.Need-answer-of-requires
 answer-of-requires c κs = search needs
 
 returns : tie.Need-returns
-returns c = check-is (c .before .before .before .check .ensures) (c .before .write-fields .ensures) (c .answer-of .ensures)
+returns c = check-is (c .before .before .before .before .args .page) (c .before .before .check .ensures) (c .before .write-fields .ensures) (c .answer-of .ensures)
 
 pub bumbazeel-check-spec : {M : Type 1} → statement M
 bumbazeel-check-spec = tie.close (tie.spec check-requires write-fields-requires answer-of-requires returns)

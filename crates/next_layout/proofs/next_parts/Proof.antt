@@ -14,6 +14,9 @@ array-write-out-2 c = search needs
 array-write-out-3 : tie.Need-array-write-out-3
 array-write-out-3 c = search needs
 
+array-write-out-4 : tie.Need-array-write-out-4
+array-write-out-4 c = search needs
+
 slice-aggregate-put-fours : tie.Need-slice-aggregate-put-fours
 slice-aggregate-put-fours c = search needs
 
@@ -37,7 +40,7 @@ returns c =
     let back4 = c .before .before .before .before in
     let back7 = back4 .before .before .before in
     let a = back7 .before .before .args in
-    next-is (a .kind) (a .answer) (a .newer) (a .w) (a .count) (back7 .put-fours .ensures) (back4 .put4 .ensures) (c .before .put8 .ensures)
+    next-is (a .kind) (a .answer) (a .newer) (a .field) (a .w) (a .count) (back7 .put-fours .ensures) (back4 .put4 .ensures) (c .before .put8 .ensures)
 
 pub next-parts-spec : {M : Type 1} → statement M
 next-parts-spec =
@@ -46,6 +49,7 @@ next-parts-spec =
     array-write-out
     array-write-out-2
     array-write-out-3
+    array-write-out-4
     slice-aggregate-put-fours
     put-fours-requires
     slice-aggregate-put4

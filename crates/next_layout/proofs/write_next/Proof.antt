@@ -24,6 +24,12 @@ newer-requires c κs = search needs
 bit-requires : tie.Need-bit-requires
 bit-requires c κs = search needs
 
+fault-requires : tie.Need-fault-requires
+fault-requires c κs = search needs
+
+fault-number-requires : tie.Need-fault-number-requires
+fault-number-requires c κs = search needs
+
 no-words-requires : tie.Need-no-words-requires
 no-words-requires c κs = search needs
 
@@ -45,7 +51,10 @@ returns c = c .next-parts .ensures ∙ rw (c .before .before .next .given .1)
 
 returns-2 : tie.Need-returns-2
 unfolding nextBytes
-returns-2 c = c .next-parts2 .ensures ∙ rw (c .before .no-words .ensures, c .before .before .bit .ensures .0, c .before .before .before .newer .ensures, c .before .before .before .before .number .ensures, c .before .before .before .before .before .before .next2 .given .1)
+returns-2 c =
+    c .next-parts2 .ensures
+    ∙ rw
+    (c .before .no-words .ensures, c .before .before .fault-number .ensures, c .before .before .before .fault .ensures, c .before .before .before .before .bit .ensures .0, c .before .before .before .before .before .newer .ensures, c .before .before .before .before .before .before .number .ensures, c .before .before .before .before .before .before .before .before .next2 .given .1)
 
 returns-3 : tie.Need-returns-3
 unfolding nextBytes
@@ -61,6 +70,8 @@ write-next-spec =
     number-requires
     newer-requires
     bit-requires
+    fault-requires
+    fault-number-requires
     no-words-requires
     next-parts-requires-2
     enum-known-next-3

@@ -5,20 +5,17 @@ use Rattle.shared_layouts.specs.Back.{fields-is}
 use Rattle.shared_layouts.proofs.write_fields.Statement.{statement}
 use Rattle.shared_layouts.proofs.write_fields.Tie as tie
 
-array-write-out : tie.Need-array-write-out
-array-write-out c = search needs
+fields-marks-requires : tie.Need-fields-marks-requires
+fields-marks-requires c κs = search needs
 
-array-write-out-2 : tie.Need-array-write-out-2
-array-write-out-2 c = search needs
+slice-aggregate-put : tie.Need-slice-aggregate-put
+slice-aggregate-put c = search needs
 
-array-write-out-3 : tie.Need-array-write-out-3
-array-write-out-3 c = search needs
+slice-aggregate-put-2 : tie.Need-slice-aggregate-put-2
+slice-aggregate-put-2 c = search needs
 
-array-write-out-4 : tie.Need-array-write-out-4
-array-write-out-4 c = search needs
-
-array-write-out-5 : tie.Need-array-write-out-5
-array-write-out-5 c = search needs
+put-requires : tie.Need-put-requires
+put-requires c κs = search needs
 
 slice-aggregate-put4 : tie.Need-slice-aggregate-put4
 slice-aggregate-put4 c = search needs
@@ -42,19 +39,20 @@ returns : tie.Need-returns
 returns c =
     let back4 = c .before .before .before .before in
     let back7 = back4 .before .before .before in
-    let start = back7 .before .before .before .before in
+    let back10 = back7 .before .before .before in
+    let back13 = back10 .before .before .before in
+    let a = back13 .before .before .before .before .args in
     let reason = c .before .put-reason .ensures in
-    fields-is (start .args .f) (reason .1) (back7 .put4 .ensures) (back4 .put-fours .ensures) (reason .0)
+    fields-is (a .page) (a .x) (reason .1) (back13 .fields-marks .ensures) (back10 .put .ensures) (back7 .put4 .ensures) (back4 .put-fours .ensures) (reason .0)
 
 pub write-fields-spec : {M : Type 1} → statement M
 write-fields-spec =
     tie.close
     (tie.spec
-    array-write-out
-    array-write-out-2
-    array-write-out-3
-    array-write-out-4
-    array-write-out-5
+    fields-marks-requires
+    slice-aggregate-put
+    slice-aggregate-put-2
+    put-requires
     slice-aggregate-put4
     put4-requires
     slice-aggregate-put-fours

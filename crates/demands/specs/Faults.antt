@@ -1,0 +1,149 @@
+-- Document 02, Q-2, of a collection: a 7 carries what is at fault in the header just read, at a first and at a later header, and no other answer carries anything.
+-- Assumes nothing.
+use Prim.Native.Nat.{ℕ}
+use mathlib.Core.Path.{_≡_, refl, sym, ap, _∙_}
+use mathlib.Core.List.{List}
+use mathlib.Core.Bool.{Bool, true, false}
+use lib.ListN.{length}
+use lib.Dec.{eqb}
+use borrow.Author.Tests.{eq-eqb, ne-eqb, eqb-false}
+use Rattle.choices.specs.Choice.{pick}
+use Rattle.choices.specs.Tests.{same-or-not}
+use Rattle.answers.specs.Answers.{success, badHeader}
+use Rattle.pages.specs.Pages.{block}
+use Rattle.header.specs.declared.Fault.{Fault}
+use Rattle.header.specs.declared.Fault.the-variants.{None}
+use Rattle.header.specs.Header.{faultless, checkOf}
+use Rattle.plans.specs.declared.Plan.{Plan}
+use Rattle.plans.specs.Phases.{judgedBy, endedBy, by-header}
+use Rattle.plans.specs.Plans.{setupAnswer}
+use Rattle.plans.specs.Awaited.{header-block}
+use Rattle.completions.specs.declared.Seen.{Seen}
+use Rattle.completions.specs.Completions.{seenOf}
+use Rattle.completions.specs.Looked.{look-header}
+use Rattle.judgement.specs.declared.Ending.{Ending}
+use Rattle.judgement.specs.declared.Ending.the-variants.{Success, BadHeader, NoRoom}
+use Rattle.judgement.specs.declared.Move.{Move}
+use Rattle.judgement.specs.declared.Move.the-variants.{End, Open, More, Skip, Acknowledge}
+use Rattle.judgement.specs.Judgement.{newerThan}
+use Rattle.turns.specs.Refusals.{firstRefusal}
+use Rattle.collection.specs.declared.Collection.{Collection}
+use Rattle.collection.specs.declared.Stepped.{Stepped}
+use Rattle.collection.specs.Collection.{validState, completionFits, refusalOf, expectedOf, lookOf, moveOf, ends, setupOf, stepOf, answerOf, faultSaid}
+use Rattle.collection.specs.Laws.{not-refused, Says, says-nothing, move-cases}
+use Rattle.collection.specs.Steps.{endedIn, makes, setup-taken, setup-refused, refused-step, taken-step, first-bad, later-bad}
+
+-- setup's answer carries nothing
+pub setup-carries : (p : Plan) → faultSaid (setupOf p .next) ≡ None
+setup-carries p = same-or-not (setupAnswer p) success (λ e. rw (setup-taken p e)) (λ e. rw (setup-refused p e))
+
+-- ---- what a move says
+
+-- as an ending of that number and fault would
+record Tells (s : Collection) (ok : Bool) (h : Seen) (x : Stepped) : Type 0 where
+  fault : faultSaid (x .next) ≡ pick (eqb (answerOf (x .next)) badHeader) (h .fault) None
+  judged : answerOf (x .next) ≡ badHeader → judgedBy (s .phase) ≡ true
+  came : answerOf (x .next) ≡ badHeader → ok ≡ true
+  bad : answerOf (x .next) ≡ badHeader → faultless (h .fault) ≡ false
+
+module _ (s : Collection) (ok : Bool) (h : Seen) where
+  ending : (e : Ending) (next : Bool) → Says s ok h e → Tells s ok h (makes s h (End e next))
+  unfolding makes
+  ending e next t = record { fault = t .fault; judged = t .judged; came = t .came; bad = t .bad }
+
+  sending : {x : Stepped} → faultSaid (x .next) ≡ None → answerOf (x .next) ≡ success → Tells s ok h x
+  sending {x = x} f a =
+      let t : eqb (answerOf (x .next)) badHeader ≡ false = rw a in
+      let n = eqb-false (answerOf (x .next)) badHeader t in
+      record { fault = f ∙ rw t; judged = λ q. absurd (n q); came = λ q. absurd (n q); bad = λ q. absurd (n q) }
+
+  tells : Tells s ok h (makes s h (moveOf s ok h))
+  unfolding makes
+  tells = move-cases (λ (m : Move). Tells s ok h (makes s h m)) s ok h (record {
+    fail = λ e l t. ending e false t;
+    large = λ f l. ending NoRoom true (says-nothing NoRoom refl refl);
+    first = λ f r. sending refl refl;
+    again = λ f l r. sending refl refl;
+    more = λ at f y. sending refl refl;
+    skip = λ at f n. sending refl refl;
+    acknowledge = λ f m p. sending refl refl;
+    stand = λ f m n. ending (Success false) false (says-nothing (Success false) refl refl);
+    done = λ f y. ending (Success (newerThan (s .attempt) h)) false (says-nothing (Success (newerThan (s .attempt) h)) refl refl);
+  })
+
+-- ---- a step
+
+module _ (s : Collection) (ok : Bool) (d : List ℕ) (n : ℕ) where
+  -- what is at fault in the data, as a header of the collection's page
+  abbrev pub dataFault : Fault
+  dataFault = checkOf (s .plan .page) (s .plan .caps .da4s) d .fault
+
+  -- the step takes a header that is judged, the first or a later one, that came with its 512 bytes, and in which something is at fault
+  pub record Bad : Type 0 where
+    pub taken : refusalOf s ok (length d) n ≡ success
+    pub judged : judgedBy (s .phase) ≡ true
+    pub came : ok ≡ true
+    pub long : length d ≡ block
+    pub bad : faultless dataFault ≡ false
+
+  same-fault : judgedBy (s .phase) ≡ true → lookOf s d .fault ≡ dataFault
+  unfolding lookOf seenOf
+  same-fault j = ap (λ (h : Seen). h .fault) (look-header (s .phase) (s .plan) d j)
+
+  -- then it ends the collection with 7, and with that fault
+  pub bad-ends : Bad → stepOf s ok d n ≡ ends (endedIn s false) (BadHeader dataFault)
+  bad-ends b =
+      let bad : faultless (lookOf s d .fault) ≡ false = ap faultless (same-fault (b .judged)) ∙ b .bad in
+      by-header (s .phase) (b .judged) (λ f. first-bad s ok d n (b .taken) f (b .came) bad) (λ f. later-bad s ok d n (b .taken) f (b .came) bad)
+      ∙ ap (λ (x : Fault). ends (endedIn s false) (BadHeader x)) (same-fault (b .judged))
+
+  module _ (r : refusalOf s ok (length d) n ≡ success) where
+    t : Tells s ok (lookOf s d) (stepOf s ok d n)
+    t = rw (taken-step s ok d n r) (tells s ok (lookOf s d))
+
+    long-block : judgedBy (s .phase) ≡ true → ok ≡ true → length d ≡ block
+    unfolding expectedOf
+    long-block j k =
+        not-refused s ok (length d) n r .bytes-fit
+        ∙ ap (λ (b : Bool). pick b (expectedOf s) 0) k
+        ∙ header-block (s .phase) (s .plan) (s .attempt .last) j
+
+    taken-bad : answerOf (stepOf s ok d n .next) ≡ badHeader → Bad
+    taken-bad q = record {
+      taken = r;
+      judged = t .judged q;
+      came = t .came q;
+      long = long-block (t .judged q) (t .came q);
+      bad = ap faultless (sym (same-fault (t .judged q))) ∙ t .bad q;
+    }
+
+    taken-carries : faultSaid (stepOf s ok d n .next) ≡ pick (eqb (answerOf (stepOf s ok d n .next)) badHeader) dataFault None
+    taken-carries =
+        t .fault
+        ∙ same-or-not (answerOf (stepOf s ok d n .next)) badHeader
+        (λ q. rw (eq-eqb _ badHeader q) (same-fault (t .judged q)))
+        (λ q. rw (ne-eqb _ badHeader q))
+
+  module _ (r : refusalOf s ok (length d) n ≡ success → ⊥) where
+    refused-answer : eqb (answerOf (stepOf s ok d n .next)) badHeader ≡ false
+    unfolding refusalOf
+    refused-answer =
+        ap (λ (x : Stepped). eqb (answerOf (x .next)) badHeader) (refused-step s ok d n r)
+        ∙ no-7 (endedBy (s .phase)) (validState s) (completionFits s ok (length d) n)
+      where
+        no-7 : (over valid fits : Bool) → eqb (firstRefusal over valid fits) badHeader ≡ false
+        no-7 true valid fits = refl
+        no-7 false false fits = refl
+        no-7 false true false = refl
+        no-7 false true true = refl
+
+    refused-carries : faultSaid (stepOf s ok d n .next) ≡ pick (eqb (answerOf (stepOf s ok d n .next)) badHeader) dataFault None
+    refused-carries = ap (λ (x : Stepped). faultSaid (x .next)) (refused-step s ok d n r) ∙ rw refused-answer
+
+  -- 7 is answered for such a header alone
+  pub step-bad : answerOf (stepOf s ok d n .next) ≡ badHeader → Bad
+  step-bad q = same-or-not (refusalOf s ok (length d) n) success (λ r. taken-bad r q) (λ r. absurd (eqb-false _ badHeader (refused-answer r) q))
+
+  -- A step's answer carries what is at fault in its data with 7, and nothing otherwise.
+  pub step-carries : faultSaid (stepOf s ok d n .next) ≡ pick (eqb (answerOf (stepOf s ok d n .next)) badHeader) dataFault None
+  step-carries = same-or-not (refusalOf s ok (length d) n) success taken-carries refused-carries
