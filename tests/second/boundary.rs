@@ -2,7 +2,7 @@
 //! header file writes beside each field. Written from the header file's words and documents 01 and 02.
 
 use crate::controller::{self, Candidate, Record};
-use crate::host::{self, Awaited, Collection, Fields, Outcome, Plan};
+use crate::host::{self, Awaited, Collection, Fault, Fields, Outcome, Plan};
 use crate::rules::*;
 
 pub const FIELDS_BYTES: usize = 156;
@@ -117,6 +117,31 @@ fn write_fields(fields: &Fields) -> [u8; FIELDS_BYTES] {
     bytes
 }
 
+/// What may be at fault, by the header file's numbers, which start at 1.
+const FAULTS: [Fault; 8] = [
+    Fault::Length,
+    Fault::Identifier,
+    Fault::Area2,
+    Fault::Area3,
+    Fault::Area4,
+    Fault::Scope,
+    Fault::Available,
+    Fault::Empty,
+];
+
+/// The number of what is at fault, or 0 for nothing.
+fn fault_number(fault: Option<Fault>) -> u8 {
+    (1..).zip(FAULTS).find(|(_, named)| Some(*named) == fault).map_or(0, |(number, _)| number)
+}
+
+/// Of a bad header what is at fault and where it starts, and else zeros.
+fn write_fault(page: u8, fault: Fault) -> [u8; FIELDS_BYTES] {
+    let mut bytes = [0; FIELDS_BYTES];
+    bytes[5] = fault_number(Some(fault));
+    bytes[6..8].copy_from_slice(&host::starts_at(fault, page).to_le_bytes());
+    bytes
+}
+
 fn phase_of(awaited: Awaited) -> (u8, u32) {
     match awaited {
         Awaited::FirstHeader => (0, 0),
@@ -190,10 +215,11 @@ fn write_next(outcome: &Outcome) -> [u8; NEXT_BYTES] {
                 put_u32(&mut bytes, 4 + 4 * i, *word);
             }
         }
-        Outcome::Ended { answer, newer, count } => {
+        Outcome::Ended { answer, newer, fault, count } => {
             bytes[0] = ENDED;
             bytes[1] = *answer;
             bytes[2] = *newer as u8;
+            bytes[3] = fault_number(*fault);
             put_u64(&mut bytes, 24, *count);
         }
         Outcome::Refused(answer) => {
@@ -206,15 +232,21 @@ fn write_next(outcome: &Outcome) -> [u8; NEXT_BYTES] {
 
 pub fn check(page: u8, da4s: u8, header: &[u8], fields: &mut [u8; FIELDS_BYTES]) -> u8 {
     match host::check_header(page, da4s != 0, header) {
-        Some(said) => {
+        Ok(said) => {
             *fields = write_fields(&said);
             SUCCESS
         }
-        None => {
-            *fields = [0; FIELDS_BYTES];
+        Err(fault) => {
+            *fields = write_fault(page, fault);
             BAD_HEADER
         }
     }
+}
+
+/// 0 for a number that names nothing.
+pub fn field_byte(page: u8, field: u8) -> u16 {
+    let named = (1..).zip(FAULTS).find(|(number, _)| *number == field);
+    named.map_or(0, |(_, fault)| host::starts_at(fault, page))
 }
 
 pub fn words(page: u8, create: u8, mcda: u8, rae: u8, offset: u32, blocks: u32, words: &mut Words) -> u8 {

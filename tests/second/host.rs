@@ -1,5 +1,5 @@
 //! The host side: header check, command builder and the collection.
-//! Written from document 01, section "Host: header check and collection", and document 02, Q-1 and Q-14.
+//! Written from document 01, section "Host: header check and collection", and document 02, Q-1, Q-2 and Q-14.
 
 use crate::rules::*;
 
@@ -22,6 +22,43 @@ pub struct Fields {
     pub reason: [u8; REASON],
 }
 
+/// What is at fault in a bad header (answer 7): the first of these, in this order.
+#[derive(Clone, Copy, Debug, PartialEq, Eq)]
+pub enum Fault {
+    Length,
+    Identifier,
+    /// the last block of area 2, 3 or 4
+    Area2,
+    Area3,
+    Area4,
+    Scope,
+    /// TCDA
+    Available,
+    /// data is available on 08h, and area 3 has no block
+    Empty,
+}
+
+/// The byte of a page's header at which what is at fault starts. The length has none and gives 0; available but empty gives area 3's.
+pub fn starts_at(fault: Fault, page: u8) -> u16 {
+    match fault {
+        Fault::Length | Fault::Identifier => 0,
+        Fault::Area2 => 10,
+        Fault::Area3 | Fault::Empty => 12,
+        Fault::Area4 => 16,
+        Fault::Scope if page == HOST_PAGE => 380,
+        Fault::Scope => 381,
+        Fault::Available => 382,
+    }
+}
+
+/// Whether the last block of area 4 breaks its rule towards area 3's, or its limit.
+fn area_4_is_at_fault(a3: u32, a4: u32, da4s: bool) -> bool {
+    if !da4s {
+        return a4 != 0;
+    }
+    a4 < a3 || a4 > AREA_4_LIMIT || (a4 > 0 && a3 == 0)
+}
+
 /// Where a page's own generation stands in its header.
 fn generation_byte(page: u8) -> usize {
     if page == HOST_PAGE {
@@ -35,10 +72,14 @@ fn little_endian(bytes: &[u8]) -> u32 {
     bytes.iter().rev().fold(0, |number, byte| number * 256 + *byte as u32)
 }
 
-/// What a header says, or nothing where it is bad (answer 7). Reserved bytes are not looked at.
-pub fn check_header(page: u8, da4s: bool, header: &[u8]) -> Option<Fields> {
-    if header.len() != BLOCK || !(page == HOST_PAGE || page == CONTROLLER_PAGE) || header[0] != page {
-        return None;
+/// What a header says, or what is at fault in it. Area 1's last block has none before it, and no number of two bytes is over the limit of areas
+/// 1 to 3. Reserved bytes are not looked at.
+pub fn check_header(page: u8, da4s: bool, header: &[u8]) -> Result<Fields, Fault> {
+    if header.len() != BLOCK {
+        return Err(Fault::Length);
+    }
+    if !(page == HOST_PAGE || page == CONTROLLER_PAGE) || header[0] != page {
+        return Err(Fault::Identifier);
     }
     let last = [
         little_endian(&header[8..10]),
@@ -48,15 +89,28 @@ pub fn check_header(page: u8, da4s: bool, header: &[u8]) -> Option<Fields> {
     ];
     let (scope, host_generation) = if page == HOST_PAGE { (header[380], header[381]) } else { (header[381], 0) };
     let available = header[382];
-    if !last_blocks_keep_rules(last, da4s) || scope > 2 || available > 1 {
-        return None;
+    let [a1, a2, a3, a4] = last;
+    if a2 < a1 {
+        return Err(Fault::Area2);
     }
-    if page == CONTROLLER_PAGE && available == 1 && last[2] == 0 {
-        return None;
+    if a3 < a2 {
+        return Err(Fault::Area3);
+    }
+    if area_4_is_at_fault(a3, a4, da4s) {
+        return Err(Fault::Area4);
+    }
+    if scope > 2 {
+        return Err(Fault::Scope);
+    }
+    if available > 1 {
+        return Err(Fault::Available);
+    }
+    if page == CONTROLLER_PAGE && available == 1 && a3 == 0 {
+        return Err(Fault::Empty);
     }
     let mut reason = [0; REASON];
     reason.copy_from_slice(&header[384..512]);
-    Some(Fields {
+    Ok(Fields {
         page,
         oui: little_endian(&header[5..8]),
         last,
@@ -136,6 +190,8 @@ pub enum Outcome {
     Ended {
         answer: u8,
         newer: bool,
+        /// with 7, what is at fault in the header
+        fault: Option<Fault>,
         count: u64,
     },
     /// 13, 14, 15, and 6 of a setup: nothing has changed
@@ -214,7 +270,13 @@ impl Collection {
         let kept = if answer == SUCCESS { bytes_of(self.wanted_blocks()) as usize } else { 0 };
         copy[kept..].fill(0);
         self.awaited = Awaited::Nothing;
-        Outcome::Ended { answer, newer, count: self.count }
+        Outcome::Ended { answer, newer, fault: None, count: self.count }
+    }
+
+    /// Ends at a bad header, and hands on what is at fault in it.
+    fn end_at_fault(&mut self, fault: Fault, copy: &mut [u8]) -> Outcome {
+        self.end(BAD_HEADER, false, copy);
+        Outcome::Ended { answer: BAD_HEADER, newer: false, fault: Some(fault), count: self.count }
     }
 
     /// Answer 13: a state that breaks setup's limits or its own.
@@ -276,14 +338,15 @@ impl Collection {
         }
     }
 
-    fn check(&self, data: &[u8]) -> Option<Fields> {
+    fn check(&self, data: &[u8]) -> Result<Fields, Fault> {
         check_header(self.plan.page, self.plan.capabilities.da4s, data)
     }
 
     /// Order at a first header: 7, 11, 8.
     fn take_first_header(&mut self, data: &[u8], copy: &mut [u8]) -> Outcome {
-        let Some(fields) = self.check(data) else {
-            return self.end(BAD_HEADER, false, copy);
+        let fields = match self.check(data) {
+            Ok(fields) => fields,
+            Err(fault) => return self.end_at_fault(fault, copy),
         };
         if self.plan.page == CONTROLLER_PAGE && fields.available == 0 {
             return self.end(NOTHING, false, copy);
@@ -298,8 +361,9 @@ impl Collection {
 
     /// Order at a later header: 7, 10, then on mismatch 9, else 8.
     fn take_later_header(&mut self, data: &[u8], copy: &mut [u8]) -> Outcome {
-        let Some(fields) = self.check(data) else {
-            return self.end(BAD_HEADER, false, copy);
+        let fields = match self.check(data) {
+            Ok(fields) => fields,
+            Err(fault) => return self.end_at_fault(fault, copy),
         };
         if self.plan.page == CONTROLLER_PAGE && fields.available == 0 {
             return self.end(WITHDRAWN, false, copy);

@@ -5,6 +5,7 @@ use crate::lent::{Lent, Slice};
 
 extern "C" {
     fn bumbazeel_check(page: u8, da4s: u8, header: *const u8, bytes: usize, fields: *mut u8) -> u8;
+    fn bumbazeel_field_byte(page: u8, field: u8) -> u16;
     fn bumbazeel_words(page: u8, create: u8, mcda: u8, rae: u8, offset: u32, blocks: u32, words: *mut u8) -> u8;
     fn bumbazeel_setup(
         page: u8,
@@ -72,6 +73,10 @@ extern "C" {
 pub fn check(page: u8, da4s: u8, header: &mut Lent, fields: &mut Lent) -> u8 {
     let header = header.slice();
     unsafe { bumbazeel_check(page, da4s, header.pointer, header.length, fields.pointer()) }
+}
+
+pub fn field_byte(page: u8, field: u8) -> u16 {
+    unsafe { bumbazeel_field_byte(page, field) }
 }
 
 pub fn words(page: u8, create: u8, mcda: u8, rae: u8, offset: u32, blocks: u32, words: &mut Lent) -> u8 {

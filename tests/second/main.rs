@@ -8,6 +8,7 @@
 
 mod boundary;
 mod controller;
+mod faults;
 mod generate;
 mod host;
 mod large;
@@ -38,7 +39,7 @@ struct Kind {
     case: Case,
 }
 
-const KINDS: [Kind; 43] = [
+const KINDS: [Kind; 48] = [
     Kind { name: "01: rows of a page", share: 0, case: outside::page_rows },
     Kind { name: "01: rows of trimming", share: 0, case: outside::trimming_rows },
     Kind { name: "01: rows and listing", share: 0, case: outside::collection_rows },
@@ -53,17 +54,22 @@ const KINDS: [Kind; 43] = [
     Kind { name: "004: no extended data", share: 0, case: outside::without_extended_data },
     Kind { name: "004: identifiers", share: 0, case: outside::identifier_table },
     Kind { name: "02: a commit in a run", share: 0, case: outside::commit_in_a_run },
+    Kind { name: "02: which field", share: 0, case: outside::which_field },
     Kind { name: "02: attempts", share: 0, case: outside::attempts_table },
     Kind { name: "02: attempts used up", share: 0, case: outside::attempts_used_up },
     Kind { name: "02: mixed copies", share: 0, case: outside::mixed_copies },
     Kind { name: "classes", share: 0, case: singles::classes },
     Kind { name: "statuses", share: 0, case: singles::statuses },
     Kind { name: "drops and store lengths", share: 0, case: singles::store_lengths },
+    Kind { name: "bytes of fields", share: 0, case: faults::field_bytes },
+    Kind { name: "faults at checks", share: 0, case: faults::checks },
+    Kind { name: "faults in collections", share: 0, case: faults::collections },
     Kind { name: "scripted runs", share: 0, case: runs::scripts },
     Kind { name: "limits of areas", share: 0, case: large::limits },
     Kind { name: "large copies", share: 1, case: large::copies },
     Kind { name: "fresh records", share: 200, case: singles::fresh },
     Kind { name: "headers", share: 1_000, case: singles::headers },
+    Kind { name: "headers near the limits", share: 1_000, case: faults::near_limits },
     Kind { name: "builder", share: 1_000, case: singles::builder },
     Kind { name: "setups", share: 500, case: singles::setups },
     Kind { name: "damaged records", share: 600, case: singles::damaged },

@@ -246,6 +246,12 @@ fn fields_are_read(pair: &mut Pair, page: u8, header: &[u8]) -> Same<()> {
     hold(fields[28..] == [if host { 0xC7 } else { 0xC8 }; 128], "reason")
 }
 
+/// A check's answer, and the field at fault with the byte at which it starts.
+fn at_fault(pair: &mut Pair, page: u8, da4s: u8, header: &[u8]) -> Same<(u8, u8, u16)> {
+    let (answer, fields) = pair.check(page, da4s, header)?;
+    Ok((answer, fields[5], u16::from_le_bytes([fields[6], fields[7]])))
+}
+
 /// Document 001, table of the scope field, and document 01: above 2 is bad.
 pub fn scope_table(pair: &mut Pair, _: &mut Random) -> Same<()> {
     let mut world = shown_drive();
@@ -254,8 +260,8 @@ pub fn scope_table(pair: &mut Pair, _: &mut Random) -> Same<()> {
         for scope in 0..=255 {
             header[byte] = scope;
             // 00h not reported, 01h controller, 02h NVM subsystem, 03h to FFh reserved
-            let due = if scope <= 2 { 0 } else { 7 };
-            hold(pair.check(page as u8, 1, &header)?.0 == due, &format!("scope {scope} on {page:02}h: {due}"))?;
+            let due = if scope <= 2 { (0, 0, 0) } else { (7, 6, byte as u16) };
+            hold(at_fault(pair, page as u8, 1, &header)? == due, &format!("scope {scope} on {page:02}h: {due:?}"))?;
         }
     }
     Ok(())
@@ -558,6 +564,51 @@ fn half_copy(pair: &mut Pair, opening: &[u8], first_half: &[u8], closing: &[u8])
     let next = pair.step(&mut state, 1, closing, &mut copy)?;
     hold(next[0] == ENDED && next[1] == 0 && get_u64(&next, 24) == 5, "the next attempt ends with 0 after 5 commands")?;
     hold(copy == [0; 4 * BLOCK], "and its copy has no blocks")
+}
+
+/// Document 02, Q-2: "the first in this order: length, identifier, last blocks of areas 2, 3, 4, scope, TCDA, available but empty (length gives
+/// byte 0, available but empty byte 12)". A header with all of these wrong but TCDA over 1 has them mended one after the other, and each time
+/// the next one is told; TCDA over 1 is told in the place of available but empty.
+pub fn which_field(pair: &mut Pair, _: &mut Random) -> Same<()> {
+    for (page, scope) in [(7, 380), (8, 381)] {
+        for da4s in [0, 1] {
+            let mut header = vec![0; 513];
+            header[0] = 15 - page;
+            header[8..20].copy_from_slice(&[3, 0, 2, 0, 0, 0, 0, 0, 1, 0, 16, 0]); // areas 3, 2, 0 and 1,048,577
+            header[380..383].copy_from_slice(&[3, 3, 1]);
+            let name = format!("page {page:02}h, DA4S {da4s}");
+            let mut told = |header: &[u8], field: u8, byte: u16, row: &str| {
+                let due = (if field == 0 { 0 } else { 7 }, field, byte);
+                hold(at_fault(pair, page, da4s, header)? == due, &format!("{name}, {row}: {due:?}"))
+            };
+            told(&header, 1, 0, "513 bytes with a wrong identifier: length")?;
+            told(&header[..511], 1, 0, "511 bytes: length")?;
+            told(&[], 1, 0, "no bytes: length")?;
+            header.truncate(512);
+            told(&header, 2, 0, "identifier")?;
+            header[0] = page;
+            told(&header, 3, 10, "areas 2 and 3 below the one before: area 2")?;
+            header[8] = 1;
+            told(&header, 4, 12, "area 3 below area 2")?;
+            header[12] = 2;
+            told(&header, 5, 16, "area 4 over its limit, or there without DA4S")?;
+            header[16..20].copy_from_slice(&[1, 0, 0, 0]);
+            told(&header, 5, 16, "area 4 below area 3, or there without DA4S")?;
+            header[8..14].fill(0);
+            told(&header, 5, 16, "area 4 where area 3 has no block, or there without DA4S")?;
+            header[16] = 0;
+            told(&header, 6, scope, "scope")?;
+            header[scope as usize] = 2;
+            header[382] = 2;
+            told(&header, 7, 382, "TCDA")?;
+            header[382] = 1;
+            let (empty, byte) = if page == 8 { (8, 12) } else { (0, 0) };
+            told(&header, empty, byte, "available but empty, which 07h may be")?;
+            header[382] = 0;
+            told(&header, 0, 0, "a good header")?;
+        }
+    }
+    Ok(())
 }
 
 /// Document 02, Q-14: "Attempts may now be set up to 65,535", "13 from 65,536 attempts". A state's numbers keep setup's limits, and its

@@ -6,7 +6,7 @@ use crate::controller::Candidate;
 use crate::lent::Lent;
 use crate::library::{self, Loan};
 use crate::rules::{LastBlocks, Words};
-use crate::seen::{Function, Seen};
+use crate::seen::{Function, Place, Seen};
 
 /// A difference, told in words.
 #[derive(Debug)]
@@ -152,7 +152,16 @@ impl Pair {
             format!("  page {page:02X}h da4s {da4s}\n  header {}\n  from 380 {}", hex(header), hex(tail))
         })?;
         self.seen.note(Function::Check, want);
+        if wanted[5] != 0 {
+            self.seen.note_fault(Place::Check, page, wanted[5]);
+        }
         Ok((want, wanted))
+    }
+
+    pub fn field_byte(&mut self, page: u8, field: u8) -> Same<u16> {
+        let (got, want) = (library::field_byte(page, field), boundary::field_byte(page, field));
+        verify((got.into(), want.into()), &[], "field_byte", || format!("  page {page:02X}h field {field}"))?;
+        Ok(want)
     }
 
     pub fn words(&mut self, page: u8, create: u8, mcda: u8, rae: u8, offset: u32, blocks: u32) -> Same<(u8, Words)> {
@@ -221,9 +230,17 @@ impl Pair {
         verify((got.into(), want.into()), &parts, "step", || {
             format!("  state {}\n  ok {ok}\n  data {}\n  copy {}", hex(state), hex(data), hex(copy))
         })?;
+        self.note_next(Function::Step, &next_wanted);
+        if next_wanted[3] != 0 {
+            let place = match state[0] {
+                0 => Place::FirstHeader,
+                2 => Place::ClosingHeader,
+                _ => Place::AfterRefusal,
+            };
+            self.seen.note_fault(place, state[1], next_wanted[3]);
+        }
         *state = state_wanted;
         *copy = copy_wanted;
-        self.note_next(Function::Step, &next_wanted);
         Ok(next_wanted)
     }
 

@@ -388,6 +388,7 @@ impl Run {
         let (answer, newer, count) = (self.next[1], self.next[2], get_u64(&self.next, 24));
         let attempts = self.setup.attempts as u64;
         claim(self.next[0] == ENDED && self.state[0] == 5, "the state has ended")?;
+        claim((self.next[3] != 0) == (answer == BAD_HEADER), "7 carries the field, and no other answer does")?;
         claim(count == self.sent, "the answer gives the number of commands sent")?;
         claim(count <= 2 + attempts * (self.chunks + 1), "a run ends within 2 + attempts * (C + 1) commands")?;
         let kept = if answer == SUCCESS { get_u32(&self.state, 36 + 4 * self.setup.area as usize) } else { 0 };

@@ -1,4 +1,6 @@
-//! Which answers each function gave. A comparison that never sees an answer has not tried it.
+//! Which answers each function gave, and which faults bad headers had. A comparison that never sees an answer has not tried it.
+
+use crate::rules::{CONTROLLER_PAGE, HOST_PAGE};
 
 #[derive(Clone, Copy)]
 pub enum Function {
@@ -31,8 +33,34 @@ const LISTED: [(&str, &[u8]); FUNCTIONS] = [
     ("drop", &[0, 4]),
 ];
 
+/// Where a bad header is met.
+#[derive(Clone, Copy)]
+pub enum Place {
+    Check,
+    FirstHeader,
+    ClosingHeader,
+    AfterRefusal,
+}
+
+const PLACES: [&str; 4] = ["a check", "a first header", "a closing header", "a header after a refused chunk"];
+const PAGES: [u8; 2] = [HOST_PAGE, CONTROLLER_PAGE];
+
+/// The numbers of `bumbazeel.h` for what is at fault go up to this.
+const LAST_FAULT: usize = 8;
+
+/// Whether such a fault can be met there: other lengths are 15 in a collection, and 07h may be available but empty.
+fn can_be_met(place: usize, page: u8, fault: usize) -> bool {
+    match fault {
+        1 => place == Place::Check as usize,
+        8 => page == CONTROLLER_PAGE,
+        _ => true,
+    }
+}
+
 pub struct Seen {
     answers: [[u64; 16]; FUNCTIONS],
+    /// what was at fault in bad headers, by place, page and number
+    faults: [[[u64; LAST_FAULT + 1]; PAGES.len()]; PLACES.len()],
     /// a setup or a step that gave a command
     sent: [u64; FUNCTIONS],
     /// endings that acknowledged a newer capture unread
@@ -41,11 +69,23 @@ pub struct Seen {
 
 impl Seen {
     pub fn new() -> Seen {
-        Seen { answers: [[0; 16]; FUNCTIONS], sent: [0; FUNCTIONS], newer: 0 }
+        Seen {
+            answers: [[0; 16]; FUNCTIONS],
+            faults: [[[0; LAST_FAULT + 1]; PAGES.len()]; PLACES.len()],
+            sent: [0; FUNCTIONS],
+            newer: 0,
+        }
     }
 
     pub fn note(&mut self, function: Function, answer: u8) {
         self.answers[function as usize][answer as usize & 15] += 1;
+    }
+
+    /// A bad header, for the page asked for. Of a page that is neither it is the length or the identifier, and is not counted.
+    pub fn note_fault(&mut self, place: Place, page: u8, fault: u8) {
+        if let Some(index) = PAGES.iter().position(|named| *named == page) {
+            self.faults[place as usize][index][fault as usize] += 1;
+        }
     }
 
     pub fn note_sent(&mut self, function: Function) {
@@ -67,6 +107,12 @@ impl Seen {
             }
             println!("{line}");
         }
+        println!("faults seen in bad headers, fields 1 to 8:");
+        for (place, name) in PLACES.iter().enumerate() {
+            for (index, page) in PAGES.iter().enumerate() {
+                println!("  {page:02X}h at {name}: {:?}", &self.faults[place][index][1..]);
+            }
+        }
     }
 
     /// What was listed and never seen.
@@ -79,6 +125,13 @@ impl Seen {
         for function in [Function::Setup, Function::Step] {
             if self.sent[function as usize] == 0 {
                 missing.push(format!("{} never gave a command", LISTED[function as usize].0));
+            }
+        }
+        for (place, name) in PLACES.iter().enumerate() {
+            for (index, page) in PAGES.iter().enumerate() {
+                let never = (1..=LAST_FAULT)
+                    .filter(|fault| can_be_met(place, *page, *fault) && self.faults[place][index][*fault] == 0);
+                missing.extend(never.map(|fault| format!("{page:02X}h at {name}: never field {fault}")));
             }
         }
         if self.newer == 0 {
