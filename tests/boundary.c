@@ -13,7 +13,8 @@ AT(bumbazeel_fields, scope, 1);
 AT(bumbazeel_fields, host_generation, 2);
 AT(bumbazeel_fields, available, 3);
 AT(bumbazeel_fields, controller_generation, 4);
-AT(bumbazeel_fields, zero, 5);
+AT(bumbazeel_fields, bad_field, 5);
+AT(bumbazeel_fields, bad_byte, 6);
 AT(bumbazeel_fields, oui, 8);
 AT(bumbazeel_fields, last, 12);
 AT(bumbazeel_fields, reason, 28);
@@ -36,7 +37,7 @@ AT(bumbazeel_state, last, 40);
 AT(bumbazeel_next, kind, 0);
 AT(bumbazeel_next, answer, 1);
 AT(bumbazeel_next, newer, 2);
-AT(bumbazeel_next, zero, 3);
+AT(bumbazeel_next, bad_field, 3);
 AT(bumbazeel_next, words, 4);
 AT(bumbazeel_next, count, 24);
 
@@ -180,10 +181,10 @@ static void controller(void) {
     expect(!memcmp(d.host, d.candidate, sizeof d.host) && all(buffer + BLOCK, BLOCK, 0x55));
     expect(bumbazeel_check(0x07, 1, buffer, BLOCK, &fields) == BUMBAZEEL_SUCCESS);
     expect(fields.page == 7 && fields.scope == 1 && fields.host_generation == 1 && fields.available == 0 && fields.controller_generation == 0);
-    expect(all(fields.zero, 3, 0) && fields.oui == 0x123456 && !memcmp(fields.last, d.last, sizeof d.last) && !memcmp(fields.reason, d.reason, 128));
-    expect(bumbazeel_check(0x08, 1, buffer, BLOCK, &fields) == BUMBAZEEL_BAD_HEADER && all(&fields, sizeof fields, 0));
-    expect(bumbazeel_check(0x07, 1, buffer, BLOCK - 1, &fields) == BUMBAZEEL_BAD_HEADER);
-    expect(bumbazeel_check(0x07, 1, NULL, 0, &fields) == BUMBAZEEL_BAD_HEADER);
+    expect(fields.bad_field == 0 && fields.bad_byte == 0 && fields.oui == 0x123456);
+    expect(!memcmp(fields.last, d.last, sizeof d.last) && !memcmp(fields.reason, d.reason, 128));
+    expect(bumbazeel_check(0x08, 1, buffer, BLOCK, &fields) == BUMBAZEEL_BAD_HEADER && fields.bad_field == BUMBAZEEL_FIELD_IDENTIFIER);
+    expect(bumbazeel_check(0x07, 1, buffer, BLOCK - 1, &fields) == BUMBAZEEL_BAD_HEADER && fields.bad_field == BUMBAZEEL_FIELD_LENGTH);
 
     /* blocks 2 and 3 of the area */
     bumbazeel_words(0x07, 0, 0, 1, 2, 2, ask);
@@ -284,6 +285,195 @@ static void drops(void) {
     expect(bumbazeel_drop(&alone, NULL, 0, NULL, 0) == BUMBAZEEL_SUCCESS && !memcmp(&alone, &fresh, sizeof alone));
 }
 
+/* What is at fault in a bad header, as a set of bits by the fields' numbers. */
+#define FAULT(field) (1u << BUMBAZEEL_FIELD_##field)
+enum { A2 = 1 << BUMBAZEEL_FIELD_AREA_2, A3 = 1 << BUMBAZEEL_FIELD_AREA_3, A4 = 1 << BUMBAZEEL_FIELD_AREA_4 };
+
+/* Last blocks, and those of them that are at fault with DA4S and without it. */
+static const struct {
+    uint32_t last[4];
+    unsigned with_da4s, without;
+} areas[] = {
+    {{0, 0, 0, 0}, 0, 0},
+    {{1, 1, 1, 1}, 0, A4},
+    {{1, 1, 1, 0}, A4, 0},
+    {{1, 2, 3, 4}, 0, A4},
+    {{1, 2, 3, 2}, A4, A4},
+    {{0, 0, 1, 0}, A4, 0},
+    {{0, 0, 0, 1}, A4, A4},
+    {{0, 0, 0, 1048577}, A4, A4},
+    {{1, 2, 3, 1048576}, 0, A4},
+    {{1, 2, 3, 1048577}, A4, A4},
+    {{1, 2, 3, 0xff000000}, A4, A4},
+    {{65535, 65535, 65535, 65535}, 0, A4},
+    {{65535, 65535, 65535, 65534}, A4, A4},
+    {{65535, 65535, 65535, 0}, A4, 0},
+    {{1, 0, 0, 0}, A2, A2},
+    {{1, 0, 0, 1}, A2 | A4, A2 | A4},
+    {{3, 2, 2, 2}, A2, A2 | A4},
+    {{3, 2, 2, 0}, A2 | A4, A2},
+    {{256, 255, 65535, 65535}, A2, A2 | A4},
+    {{0, 1, 0, 0}, A3, A3},
+    {{0, 1, 0, 1}, A3 | A4, A3 | A4},
+    {{1, 3, 2, 2}, A3, A3 | A4},
+    {{1, 3, 2, 0}, A3 | A4, A3},
+    {{2, 3, 1, 1}, A3, A3 | A4}, /* area 3 is below area 1 too, but area 2 is not */
+    {{1, 65535, 65534, 1048577}, A3 | A4, A3 | A4},
+    {{2, 1, 0, 0}, A2 | A3, A2 | A3},
+    {{2, 1, 0, 1}, A2 | A3 | A4, A2 | A3 | A4},
+    {{5, 3, 1, 1}, A2 | A3, A2 | A3 | A4},
+    {{5, 3, 1, 0}, A2 | A3 | A4, A2 | A3},
+};
+enum { ROWS = sizeof areas / sizeof *areas, SHOWN = ROWS * 3 * 4 * 3 };
+
+/* Writes one of so many headers of a page, which differ in last blocks, scope, TCDA and identifier. Answers what is at fault in it. */
+static unsigned show(uint8_t *header, uint8_t page, uint8_t da4s, unsigned number) {
+    static const uint8_t scopes[] = {2, 3, 255}, availables[] = {0, 1, 2, 255};
+    const uint8_t identifiers[] = {page, (uint8_t)(15 - page), 0}, scope = scopes[number / ROWS % 3];
+    const uint8_t available = availables[number / ROWS / 3 % 4], identifier = identifiers[number / ROWS / 3 / 4];
+    const uint32_t *last = areas[number % ROWS].last;
+    unsigned faults = da4s ? areas[number % ROWS].with_da4s : areas[number % ROWS].without;
+    memset(header, 0, BLOCK);
+    header[0] = identifier;
+    for (int i = 0; i < 2; i++) {
+        header[8 + i] = (uint8_t)(last[0] >> 8 * i);
+        header[10 + i] = (uint8_t)(last[1] >> 8 * i);
+        header[12 + i] = (uint8_t)(last[2] >> 8 * i);
+    }
+    for (int i = 0; i < 4; i++)
+        header[16 + i] = (uint8_t)(last[3] >> 8 * i);
+    header[380] = header[381] = 3; /* which is no scope on the other page */
+    header[page == 0x07 ? 380 : 381] = scope;
+    header[382] = available;
+    faults |= identifier != page ? FAULT(IDENTIFIER) : 0;
+    faults |= scope > 2 ? FAULT(SCOPE) : 0;
+    faults |= available > 1 ? FAULT(AVAILABLE) : 0;
+    faults |= page == 0x08 && available == 1 && last[2] == 0 ? FAULT(EMPTY) : 0;
+    return faults;
+}
+
+/* The number of the first field at fault, which is the lowest, or 0. */
+static uint8_t first_of(unsigned faults) {
+    for (uint8_t field = BUMBAZEEL_FIELD_LENGTH; field <= BUMBAZEEL_FIELD_EMPTY; field++)
+        if (faults >> field & 1)
+            return field;
+    return BUMBAZEEL_FIELD_NONE;
+}
+
+static uint16_t starts(int page, int field) {
+    static const uint16_t bytes[] = {0, 0, 0, 10, 12, 16, 381, 382, 12};
+    return field == BUMBAZEEL_FIELD_SCOPE && page == 0x07 ? 380 : field <= BUMBAZEEL_FIELD_EMPTY ? bytes[field] : 0;
+}
+
+/* A check tells the first field at fault and where it starts, and zeros besides. */
+static void check_finds(uint8_t page, uint8_t da4s, const uint8_t *header, size_t bytes, unsigned faults) {
+    struct bumbazeel_fields fields, want;
+    memset(&fields, 0xff, sizeof fields);
+    memset(&want, 0, sizeof want);
+    want.bad_field = first_of(faults);
+    want.bad_byte = starts(page, want.bad_field);
+    uint8_t answer = bumbazeel_check(page, da4s, header, bytes, &fields);
+    if (faults)
+        expect(answer == BUMBAZEEL_BAD_HEADER && !memcmp(&fields, &want, sizeof fields));
+    else
+        expect(answer == BUMBAZEEL_SUCCESS && fields.bad_field == 0 && fields.bad_byte == 0 && fields.page == page);
+}
+
+/* Each fault alone and every two with no third are among the headers, but for those that cannot be: 07h may be available but empty, and TCDA
+ * is not 1 and over 1. Of no bytes only the page asked for can be at fault besides the length. */
+static void faults(uint8_t page, uint8_t da4s) {
+    static const uint8_t others[] = {0x00, 0x06, 0x09, 0x87, 0xff};
+    uint8_t header[BLOCK + 1], met[1 << 9] = {0};
+    for (unsigned number = 0; number < SHOWN; number++) {
+        const unsigned at_fault = show(header, page, da4s, number);
+        header[BLOCK] = page;
+        check_finds(page, da4s, header, BLOCK, at_fault);
+        check_finds(page, da4s, header, BLOCK - 1, at_fault | FAULT(LENGTH));
+        check_finds(page, da4s, header, BLOCK + 1, at_fault | FAULT(LENGTH));
+        met[at_fault] = met[at_fault | FAULT(LENGTH)] = 1;
+        header[0] = others[number % sizeof others]; /* the page asked for, which is neither */
+        check_finds(header[0], da4s, header, BLOCK, FAULT(IDENTIFIER));
+        check_finds(header[0], da4s, header, BLOCK + 1, FAULT(LENGTH) | FAULT(IDENTIFIER));
+    }
+    check_finds(page, da4s, NULL, 0, FAULT(LENGTH));
+    check_finds(0x09, da4s, NULL, 0, FAULT(LENGTH) | FAULT(IDENTIFIER));
+    for (int first = BUMBAZEEL_FIELD_LENGTH; first <= BUMBAZEEL_FIELD_EMPTY; first++)
+        for (int second = first; second <= BUMBAZEEL_FIELD_EMPTY; second++) {
+            int can_be = second != BUMBAZEEL_FIELD_EMPTY || (page == 0x08 && first != BUMBAZEEL_FIELD_AVAILABLE);
+            expect(met[1u << first | 1u << second] == can_be);
+        }
+}
+
+static void field_bytes(void) {
+    int wrong = 0;
+    for (int page = 0; page < 256; page++)
+        for (int field = 0; field < 256; field++)
+            wrong += bumbazeel_field_byte((uint8_t)page, (uint8_t)field) != starts(page, field);
+    expect(wrong == 0);
+    expect(bumbazeel_field_byte(0x07, BUMBAZEEL_FIELD_SCOPE) == 380 && bumbazeel_field_byte(0x08, BUMBAZEEL_FIELD_SCOPE) == 381);
+}
+
+/* A collection of one block that awaits a header: the first one, or in its last attempt a closing one or the one after a refused chunk. Of DA4S
+ * and ETDAS the drive has one. */
+static struct bumbazeel_state awaiting(uint8_t page, uint8_t da4s, uint8_t phase) {
+    const uint8_t caps = (uint8_t)(CAPS & ~(da4s ? BUMBAZEEL_ETDAS : BUMBAZEEL_DA4S));
+    struct bumbazeel_state state;
+    struct bumbazeel_next next;
+    uint8_t header[BLOCK], copy[BLOCK];
+    expect(bumbazeel_setup(page, 0, 1, caps, 1, 2, sizeof copy, &state, &next) == BUMBAZEEL_SEND && next.bad_field == 0);
+    if (phase != BUMBAZEEL_AWAITS_FIRST_HEADER) {
+        expect(show(header, page, da4s, ROWS * 3 + (da4s ? 1 : 2)) == 0); /* data is available, and each area has one block */
+        expect(bumbazeel_step(&state, 1, header, sizeof header, copy, sizeof copy, &next) == BUMBAZEEL_SEND && next.bad_field == 0);
+        const uint8_t came = phase == BUMBAZEEL_AWAITS_CLOSING_HEADER;
+        expect(bumbazeel_step(&state, came, header, came ? BLOCK : 0, copy, sizeof copy, &next) == BUMBAZEEL_SEND && next.bad_field == 0);
+        state.attempt = state.attempts;
+    }
+    expect(state.phase == phase);
+    return state;
+}
+
+/* Ending 7 has the first field at fault; commands, refusals and other endings have none. Answers which endings there were, as bits. */
+static unsigned faults_in_collections(uint8_t page, uint8_t da4s, uint8_t phase) {
+    const struct bumbazeel_state awaits = awaiting(page, da4s, phase);
+    unsigned endings = 0;
+    for (unsigned number = 0; number < SHOWN; number++) {
+        struct bumbazeel_state state = awaits;
+        struct bumbazeel_next next;
+        uint8_t header[BLOCK], copy[BLOCK];
+        const unsigned at_fault = show(header, page, da4s, number);
+        memset(copy, 0x55, sizeof copy);
+        memset(&next, 0xff, sizeof next);
+        expect(bumbazeel_step(&state, 1, header, BLOCK - 1, copy, sizeof copy, &next) == BUMBAZEEL_REFUSED);
+        expect(next.answer == BUMBAZEEL_DOES_NOT_FIT && next.bad_field == 0);
+        uint8_t kind = bumbazeel_step(&state, 1, header, BLOCK, copy, sizeof copy, &next);
+        if (at_fault)
+            expect(kind == BUMBAZEEL_ENDED && next.answer == BUMBAZEEL_BAD_HEADER && next.newer == 0 && all(copy, sizeof copy, 0));
+        else
+            expect(next.answer != BUMBAZEEL_BAD_HEADER);
+        expect(next.bad_field == first_of(at_fault));
+        if (kind != BUMBAZEEL_ENDED)
+            continue;
+        endings |= 1u << next.answer;
+        expect(bumbazeel_step(&state, 1, header, BLOCK, copy, sizeof copy, &next) == BUMBAZEEL_REFUSED && next.bad_field == 0);
+    }
+    return endings;
+}
+
+/* The same at a first header, a closing one and one after a refused chunk: every ending from 7 to 12 is among them. */
+static void endings(void) {
+    enum { FIRST = BUMBAZEEL_AWAITS_FIRST_HEADER, CLOSING = BUMBAZEEL_AWAITS_CLOSING_HEADER, REFUSED = BUMBAZEEL_AWAITS_CLOSING_HEADER_AFTER_REFUSAL };
+    const unsigned bad = 1u << BUMBAZEEL_BAD_HEADER, large = 1u << BUMBAZEEL_NO_ROOM, used_up = 1u << BUMBAZEEL_ATTEMPTS_USED_UP;
+    const unsigned withdrawn = 1u << BUMBAZEEL_WITHDRAWN, nothing = 1u << BUMBAZEEL_NOTHING, broke = 1u << BUMBAZEEL_BROKE_ITS_WORD;
+    for (uint8_t da4s = 0; da4s < 2; da4s++) {
+        expect(faults_in_collections(0x07, da4s, FIRST) == (bad | large));
+        expect(faults_in_collections(0x08, da4s, FIRST) == (bad | large | nothing));
+        expect(faults_in_collections(0x07, da4s, CLOSING) == (bad | used_up | 1u << BUMBAZEEL_SUCCESS));
+        expect(faults_in_collections(0x08, da4s, CLOSING) == (bad | used_up | withdrawn));
+        expect(faults_in_collections(0x07, da4s, REFUSED) == (bad | used_up | broke));
+        expect(faults_in_collections(0x08, da4s, REFUSED) == (bad | used_up | broke | withdrawn));
+    }
+}
+
 /* A whole collection of a page, from a drive that was captured on. */
 static void collection(uint8_t page, uint8_t create, unsigned commands) {
     struct drive d;
@@ -300,7 +490,7 @@ static void collection(uint8_t page, uint8_t create, unsigned commands) {
     expect(state.attempts == 3 && state.attempt == 1 && state.room == sizeof copy && state.count == 1 && state.at == 0);
     while (next.kind == BUMBAZEEL_SEND && sent < 100) {
         size_t bytes = ((next.words[0] >> 16) + 1) * 4;
-        expect(bytes <= sizeof buffer && next.answer == 0 && next.newer == 0 && next.count == 0 && next.zero == 0);
+        expect(bytes <= sizeof buffer && next.answer == 0 && next.newer == 0 && next.count == 0 && next.bad_field == 0);
         sent++;
         uint8_t answer = command(&d, next.words, buffer, sizeof buffer);
         if (answer != BUMBAZEEL_SUCCESS)
@@ -349,7 +539,7 @@ static void dropped_collection(uint32_t chunk, unsigned dropped_after, unsigned 
     expect(refusals == refused && state.attempt == 2 && all(state.last, sizeof state.last, 0) && all(copy, sizeof copy, 0));
 }
 
-/* An acknowledgement is newer by its generation alone, whatever last blocks it shows. */
+/* An acknowledgement is newer by its generation alone, whatever last blocks it shows; nothing of it is at fault. */
 static void acknowledgements(const struct bumbazeel_state *awaits, const uint8_t *header, uint8_t *copy, size_t room) {
     for (uint8_t newer = 0; newer < 2; newer++) {
         struct bumbazeel_state state = *awaits;
@@ -359,7 +549,7 @@ static void acknowledgements(const struct bumbazeel_state *awaits, const uint8_t
         memset(shown + 8, 0, 12);
         shown[383] = (uint8_t)(shown[383] + newer);
         expect(bumbazeel_step(&state, 1, shown, sizeof shown, copy, room, &next) == BUMBAZEEL_ENDED);
-        expect(next.answer == BUMBAZEEL_SUCCESS && next.newer == newer);
+        expect(next.answer == BUMBAZEEL_SUCCESS && next.newer == newer && next.bad_field == 0);
     }
 }
 
@@ -458,7 +648,7 @@ static void flags(void) {
     header[0] = 0x07;
     header[12] = header[16] = 1; /* a last block of areas 3 and 4 */
     expect(bumbazeel_check(0x07, 128, header, sizeof header, &fields) == BUMBAZEEL_SUCCESS && fields.last[2] == 1 && fields.last[3] == 1);
-    expect(bumbazeel_check(0x07, 0, header, sizeof header, &fields) == BUMBAZEEL_BAD_HEADER);
+    expect(bumbazeel_check(0x07, 0, header, sizeof header, &fields) == BUMBAZEEL_BAD_HEADER && fields.bad_field == BUMBAZEEL_FIELD_AREA_4);
 }
 
 /* The limits and the phases that the header file names are the library's. */
@@ -493,7 +683,7 @@ static uint8_t refused_header(uint32_t attempts, uint64_t count) {
     state.count = count;
     before = state;
     if (bumbazeel_step(&state, 0, NULL, 0, copy, sizeof copy, &next) == BUMBAZEEL_ENDED)
-        expect(next.count == count && state.count == count && all(copy, sizeof copy, 0));
+        expect(next.count == count && state.count == count && next.bad_field == 0 && all(copy, sizeof copy, 0));
     else
         expect(!memcmp(&state, &before, sizeof state) && all(copy, sizeof copy, 0x55));
     return next.answer;
@@ -558,7 +748,7 @@ static void refused_steps(void) {
         memset(&next, 0xff, sizeof next);
         expect(bumbazeel_step(&state, 1, data, sizeof data, copy, sizeof copy, &next) == BUMBAZEEL_REFUSED && next.answer == BUMBAZEEL_BAD_SETUP);
         expect(!memcmp(&state, &before, sizeof state) && all(copy, sizeof copy, 0x55));
-        expect(next.kind == BUMBAZEEL_REFUSED && next.newer == 0 && next.zero == 0 && next.count == 0 && all(next.words, sizeof next.words, 0));
+        expect(next.kind == BUMBAZEEL_REFUSED && next.newer == 0 && next.bad_field == 0 && next.count == 0 && all(next.words, sizeof next.words, 0));
     }
     state = fine;
     expect(bumbazeel_step(&state, 1, data, 1, copy, sizeof copy, &next) == BUMBAZEEL_REFUSED && next.answer == BUMBAZEEL_DOES_NOT_FIT);
@@ -574,6 +764,12 @@ int main(void) {
     fresh();
     controller();
     drops();
+    field_bytes();
+    faults(0x07, 0);
+    faults(0x07, 1);
+    faults(0x08, 0);
+    faults(0x08, 1);
+    endings();
     collection(0x07, 1, 4);
     collection(0x08, 0, 5);
     dropped_collection(1, 1, 5, 1); /* H D c1 c2! h h */

@@ -2,14 +2,15 @@
 
 Its one argument is the library's path. It writes one line a failure and "boundary: ok" without any."""
 import ctypes
+import itertools
 import sys
 from ctypes import POINTER, Structure, byref, c_size_t, c_uint8, c_uint16, c_uint32, c_uint64
 
 
 class Fields(Structure):
     _fields_ = [("page", c_uint8), ("scope", c_uint8), ("host_generation", c_uint8), ("available", c_uint8),
-                ("controller_generation", c_uint8), ("zero", c_uint8 * 3), ("oui", c_uint32), ("last", c_uint32 * 4),
-                ("reason", c_uint8 * 128)]
+                ("controller_generation", c_uint8), ("bad_field", c_uint8), ("bad_byte", c_uint16), ("oui", c_uint32),
+                ("last", c_uint32 * 4), ("reason", c_uint8 * 128)]
 
 
 class State(Structure):
@@ -19,7 +20,7 @@ class State(Structure):
 
 
 class Next(Structure):
-    _fields_ = [("kind", c_uint8), ("answer", c_uint8), ("newer", c_uint8), ("zero", c_uint8), ("words", c_uint32 * 5),
+    _fields_ = [("kind", c_uint8), ("answer", c_uint8), ("newer", c_uint8), ("bad_field", c_uint8), ("words", c_uint32 * 5),
                 ("count", c_uint64)]
 
 
@@ -42,6 +43,7 @@ def function(name, result, *arguments):
 
 
 check = function("check", c_uint8, c_uint8, c_uint8, BYTES, c_size_t, POINTER(Fields))
+field_byte = function("field_byte", c_uint16, c_uint8, c_uint8)
 words = function("words", c_uint8, c_uint8, c_uint8, c_uint8, c_uint8, c_uint32, c_uint32, WORDS)
 setup = function("setup", c_uint8, c_uint8, c_uint8, c_uint8, c_uint8, c_uint32, c_uint32, c_size_t, POINTER(State), POINTER(Next))
 step = function("step", c_uint8, POINTER(State), c_uint8, BYTES, c_size_t, BYTES, c_size_t, POINTER(Next))
@@ -62,6 +64,7 @@ def same(what, wanted, got):
 
 
 same("sizes", (156, 56, 32, 300), tuple(map(ctypes.sizeof, (Fields, State, Next, Record))))
+same("places of the fields at fault", (5, 6, 3), (Fields.bad_field.offset, Fields.bad_byte.offset, Next.bad_field.offset))
 classes = [class_of(page) for page in range(256)]
 same("classes", [42, 64, 64, 86], [classes.count(c) for c in range(4)])
 same("statuses", [0, 2, 0x109] + [0xFFFF] * 253, [status_of(answer) for answer in range(256)])
@@ -81,7 +84,6 @@ same("a capture", (0, 1, [1, 2, 3, 4], contents),
       bytes(controller)))
 
 header, fields = (c_uint8 * BLOCK)(), Fields()
-same("a bad header", 7, check(8, 1, header, BLOCK, byref(fields)))
 state, then, copy, data, identifier_class = State(), Next(), (c_uint8 * (6 * BLOCK))(*[5] * (6 * BLOCK)), (c_uint8 * (3 * BLOCK))(), c_uint8(9)
 same("a setup", 0, setup(8, 0, 4, EVERY_CAP, 3, 1, len(copy), byref(state), byref(then)))
 listed = []
@@ -96,7 +98,7 @@ while then.kind == 0 and len(listed) < 10:
              (check(8, 1, data, BLOCK, byref(fields)), fields.page, fields.scope, fields.available, fields.oui, bytes(fields.reason)))
     step(byref(state), answer == 0, data, size, copy, len(copy), byref(then))
 same("the commands", [[0x007F8008, 0, 0], [0x017F8008, 0, 512], [0x007F8008, 0, 2048], [0x007F8008, 0, 0], [0x007F0008, 0, 0]], listed)
-same("the ending", (1, 0, 0, 5), (then.kind, then.answer, then.newer, then.count))
+same("the ending", (1, 0, 0, 0, 5), (then.kind, then.answer, then.newer, then.bad_field, then.count))
 same("the copy", contents + bytes(2 * BLOCK), bytes(copy))
 same("a step after the ending, with no data", (2, 14), (step(byref(state), 1, None, 0, copy, len(copy), byref(then)), then.answer))
 
@@ -153,6 +155,107 @@ same("no attempts", (13, 13, 0), limited(0))
 same("H D c1 c2! h h", (5, 1, 1, 0, 5, bytes(2 * BLOCK)), dropped_run(1, 1))
 same("H D c1 h h", (4, 0, 1, 0, 4, bytes(2 * BLOCK)), dropped_run(2, 1))
 same("H c1 c2 D h h", (5, 0, 1, 0, 5, bytes(2 * BLOCK)), dropped_run(1, 3))
+
+LENGTH, IDENTIFIER, AREA_2, AREA_3, AREA_4, SCOPE, AVAILABLE, EMPTY = FIELDS = range(1, 9)
+BYTES_OF = {7: [0, 0, 0, 10, 12, 16, 380, 382, 12], 8: [0, 0, 0, 10, 12, 16, 381, 382, 12]}
+# last blocks by the areas at fault in them: with DA4S and without it, and where area 3 has no block with it and without it
+AREAS = {
+    (): ((1, 2, 3, 4), (1, 2, 3, 0), (0, 0, 0, 0), (0, 0, 0, 0)),
+    (AREA_2,): ((3, 2, 2, 2), (3, 2, 2, 0), (1, 0, 0, 0), (1, 0, 0, 0)),
+    (AREA_3,): ((1, 3, 2, 2), (1, 3, 2, 0), (0, 1, 0, 0), (0, 1, 0, 0)),
+    (AREA_4,): ((1, 2, 3, 2), (1, 2, 3, 3), (0, 0, 0, 1), (0, 0, 0, 1)),
+    (AREA_2, AREA_3): ((5, 3, 1, 1), (5, 3, 1, 0), (2, 1, 0, 0), (2, 1, 0, 0)),
+    (AREA_2, AREA_4): ((3, 2, 2, 1), (3, 2, 2, 2), (1, 0, 0, 1), (1, 0, 0, 1)),
+    (AREA_3, AREA_4): ((1, 3, 2, 1), (1, 3, 2, 2), (0, 1, 0, 1), (0, 1, 0, 1)),
+    (AREA_2, AREA_3, AREA_4): ((5, 3, 1, 0), (5, 3, 1, 1), (2, 1, 0, 1), (2, 1, 0, 1)),
+}
+# last blocks at their limits, and the field at fault with DA4S and without it
+LIMITS = (
+    ((0, 0, 1, 0), AREA_4, 0),
+    ((0, 0, 1, 1), 0, AREA_4),
+    ((0, 0, 1, 1048576), 0, AREA_4),
+    ((0, 0, 1, 1048577), AREA_4, AREA_4),
+    ((0, 0, 1, 0x01000000), AREA_4, AREA_4),
+    ((0, 0, 0, 1048577), AREA_4, AREA_4),
+    ((0, 0, 65535, 65534), AREA_4, AREA_4),
+    ((65535, 65535, 65535, 65535), 0, AREA_4),
+    ((2, 3, 1, 1), AREA_3, AREA_3),
+)
+
+
+def shown(page, identifier, last, scope, available):
+    """A header's 512 bytes. Where the other page has its scope stands what would be none."""
+    blocks = b"".join(number.to_bytes(2, "little") for number in last[:3]) + bytes(2) + last[3].to_bytes(4, "little")
+    scopes = bytes([scope, 3] if page == 7 else [3, scope])
+    return bytes([identifier]) + bytes(7) + blocks + bytes(360) + scopes + bytes([available, 9]) + reason
+
+
+def with_faults(page, da4s, faults):
+    """A header of a page in which just these are at fault, but for the length."""
+    areas = AREAS[tuple(fault for fault in faults if AREA_2 <= fault <= AREA_4)]
+    last = areas[2 * (EMPTY in faults) + 1 - da4s]
+    identifier, scope = 15 - page if IDENTIFIER in faults else page, 3 if SCOPE in faults else 2
+    return shown(page, identifier, last, scope, 1 if EMPTY in faults else 2 if AVAILABLE in faults else 0)
+
+
+def checked(page, da4s, content):
+    """A check's answer, field at fault and byte, and whether all else is zeros."""
+    ctypes.memset(byref(fields), 0xEE, ctypes.sizeof(fields))
+    answer = check(page, da4s, (c_uint8 * len(content))(*content) if content else None, len(content), byref(fields))
+    return answer, fields.bad_field, fields.bad_byte, bytes(fields)[:5] + bytes(fields)[8:] == bytes(153)
+
+
+def judged(page, da4s, content, chunk=None):
+    """What a collection makes of a header: of its first one or, in its last attempt, of one after a chunk that came (1) or was refused (0).
+    Of DA4S and ETDAS the drive has one."""
+    copy, opening = (c_uint8 * BLOCK)(*[5] * BLOCK), shown(page, page, (1, 1, 1, da4s), 2, 1)
+    setup(page, 0, 1, EVERY_CAP & ~(8 if da4s else 4), 1, 2, BLOCK, byref(state), byref(then))
+    for data in [] if chunk is None else [opening, reason * 4 if chunk else b""]:
+        step(byref(state), len(data) > 0, (c_uint8 * len(data))(*data), len(data), copy, BLOCK, byref(then))
+        same("a step before a later header", (0, 0), (then.kind, then.bad_field))
+        state.attempt = 2
+    step(byref(state), 1, (c_uint8 * len(content))(*content), len(content), copy, BLOCK, byref(then))
+    if then.answer == 7:
+        same("the copy after a bad header", bytes(BLOCK), bytes(copy))
+    return then.kind, then.answer, then.bad_field
+
+
+def can_be(page, faults):
+    """07h may be available but empty, and TCDA is not 1 and over 1."""
+    return EMPTY not in faults or (page == 8 and AVAILABLE not in faults)
+
+
+for page, da4s in itertools.product((7, 8), (0, 1)):
+    every_set = itertools.chain.from_iterable(itertools.combinations(FIELDS, count) for count in range(9))
+    for faults in (faults for faults in every_set if can_be(page, faults)):
+        content, first = with_faults(page, da4s, faults), min(faults, default=0)
+        due = (7 if first else 0, first, BYTES_OF[page][first], first > 0)
+        for length in (511, 513) if LENGTH in faults else (512,):
+            same(f"{page:02X}h, DA4S {da4s}, faults {faults}, {length} bytes", due, checked(page, da4s, (content + b"7")[:length]))
+        if LENGTH not in faults and first:
+            same(f"{page:02X}h, DA4S {da4s}, faults {faults} in a collection", [(1, 7, first)] * 3,
+                 [judged(page, da4s, content, chunk) for chunk in (None, 1, 0)])
+    same("no bytes", (7, LENGTH, 0, True), checked(page, da4s, b""))
+    neither = shown(9, 9, (0, 0, 0, 0), 2, 0)
+    same("a header as another page", [(7, IDENTIFIER, 0, True), (7, LENGTH, 0, True)], [checked(9, da4s, neither), checked(9, da4s, neither + b"7")])
+    for last, with_da4s, without in LIMITS:
+        found = checked(page, da4s, shown(page, page, last, 2, 1))[1]
+        same(f"{page:02X}h, DA4S {da4s}, last blocks {last}", with_da4s if da4s else without, found)
+    same(f"{page:02X}h, available but empty", 0 if page == 7 else EMPTY, checked(page, da4s, shown(page, page, (0, 0, 0, 0), 2, 1))[1])
+    good, full = shown(page, page, (1, 1, 1, da4s), 2, 1), shown(page, page, (2, 2, 2, 2 * da4s), 2, 1)
+    empty = shown(page, page, (0, 0, 0, 0), 2, 0)
+    on_07h = page == 7
+    same("first headers that are good", [(0, 0, 0), (1, 8, 0), (0, 0, 0) if on_07h else (1, 11, 0)],
+         [judged(page, da4s, content) for content in (good, full, empty)])
+    same("later headers that are good", [(1 if on_07h else 0, 0, 0), (1, 9, 0), (1, 9 if on_07h else 10, 0)],
+         [judged(page, da4s, content, 1) for content in (good, full, empty)])
+    same("a match after a refused chunk", (1, 12, 0), judged(page, da4s, good, 0))
+    if page == 8 and judged(page, da4s, good, 1) == (0, 0, 0):
+        step(byref(state), 1, header, BLOCK, data, BLOCK, byref(then))
+        same("an acknowledgement of zeros, which is not judged", (1, 0, 0), (then.kind, then.answer, then.bad_field))
+    same("headers that do not fit", [(2, 15, 0)] * 2, [judged(page, da4s, content) for content in (good[:511], good + b"7")])
+same("bytes of fields", [BYTES_OF[7 if page == 7 else 8] + [0] * 247 for page in range(256)],
+     [[field_byte(page, field) for field in range(256)] for page in range(256)])
 if not failures:
     print("boundary: ok")
 sys.exit(failures > 0)
