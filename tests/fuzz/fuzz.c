@@ -31,7 +31,8 @@ static void broken(const char *test, int line) {
 
 /* ---- what was reached */
 
-enum function { CHECK, BUILD, SETUP, STEP, FRESH, COMMAND, CAPTURE, DROP, NUMBERS, FUNCTIONS };
+/* The last three are the fields that a check, a first header and a later header had at fault. */
+enum function { CHECK, BUILD, SETUP, STEP, FRESH, COMMAND, CAPTURE, DROP, NUMBERS, CHECK_FIELD, FIRST_FIELD, LATER_FIELD, FUNCTIONS };
 enum { VARIANTS = 8, ANSWERS = 32, SENDS = 16 }; /* a step that goes on counts as answer 16 */
 __attribute__((section("__libfuzzer_extra_counters"))) static uint8_t reached[FUNCTIONS][VARIANTS][ANSWERS];
 
@@ -153,7 +154,7 @@ static void fields_are_the_headers(const uint8_t *h, uint8_t page, bool da4s) {
     const struct bumbazeel_fields *f = THE_FIELDS;
     must(slots[DATA].bytes == BLOCK && h[0] == page && f->page == page && (page == HEADER_07 || page == HEADER_08));
     must(f->scope == h[page == HEADER_07 ? 380 : 381] && f->host_generation == (page == HEADER_07 ? h[381] : 0));
-    must(f->available == h[382] && f->controller_generation == h[383] && f->oui == little_endian(h + 5, 3) && zeros(f->zero, 3));
+    must(f->available == h[382] && f->controller_generation == h[383] && f->oui == little_endian(h + 5, 3) && !f->bad_field && !f->bad_byte);
     for (int area = 0; area < 3; area++)
         must(f->last[area] == little_endian(h + 8 + 2 * area, 2));
     must(f->last[3] == little_endian(h + 16, 4) && !memcmp(f->reason, h + 384, REASON_BYTES));
@@ -161,18 +162,55 @@ static void fields_are_the_headers(const uint8_t *h, uint8_t page, bool da4s) {
     must(page == HEADER_07 || !f->available || f->last[2]);
 }
 
+/* Whether a field after the length is at fault, in a header of 512 bytes. */
+static bool is_at_fault(uint8_t field, const uint8_t *h, uint8_t page, bool da4s) {
+    uint32_t a1 = little_endian(h + 8, 2), a2 = little_endian(h + 10, 2), a3 = little_endian(h + 12, 2), a4 = little_endian(h + 16, 4);
+    switch (field) {
+    case BUMBAZEEL_FIELD_IDENTIFIER:
+        return h[0] != page || (page != HEADER_07 && page != HEADER_08);
+    case BUMBAZEEL_FIELD_AREA_2:
+        return a2 < a1;
+    case BUMBAZEEL_FIELD_AREA_3:
+        return a3 < a2;
+    case BUMBAZEEL_FIELD_AREA_4:
+        return da4s ? a4 < a3 || a4 > BUMBAZEEL_LAST_OF_AREA_4 || (a4 && !a3) : a4 > 0;
+    case BUMBAZEEL_FIELD_SCOPE:
+        return h[page == HEADER_07 ? 380 : 381] > 2;
+    case BUMBAZEEL_FIELD_AVAILABLE:
+        return h[382] > 1;
+    default:
+        return page == HEADER_08 && h[382] == 1 && !a3;
+    }
+}
+
+/* The first field at fault in what the slot for data holds, or none. */
+static uint8_t first_at_fault(uint8_t page, bool da4s) {
+    if (slots[DATA].bytes != BLOCK)
+        return BUMBAZEEL_FIELD_LENGTH;
+    for (uint8_t field = BUMBAZEEL_FIELD_IDENTIFIER; field <= BUMBAZEEL_FIELD_EMPTY; field++)
+        if (is_at_fault(field, slots[DATA].lent, page, da4s))
+            return field;
+    return BUMBAZEEL_FIELD_NONE;
+}
+
+/* Which page it is, for what was reached. */
+static unsigned page_variant(uint8_t page) { return page == HEADER_07 ? 1 : page == HEADER_08 ? 2 : 0; }
+
 /* Checks what the slot for data holds. */
 static uint8_t check(uint8_t page, uint8_t da4s) {
     lend(FIELDS, sizeof(struct bumbazeel_fields), 0xEE);
     uint8_t answer = bumbazeel_check(page, da4s, slots[DATA].lent, slots[DATA].bytes, THE_FIELDS);
-    must(answer == BUMBAZEEL_SUCCESS || answer == BUMBAZEEL_BAD_HEADER);
+    struct bumbazeel_fields bad = {.bad_field = first_at_fault(page, da4s)};
+    bad.bad_byte = bumbazeel_field_byte(page, bad.bad_field);
+    must(answer == (bad.bad_field ? BUMBAZEEL_BAD_HEADER : BUMBAZEEL_SUCCESS));
     if (answer)
-        must(zeros(THE_FIELDS, sizeof(struct bumbazeel_fields)));
+        must(!memcmp(THE_FIELDS, &bad, sizeof bad));
     else
         fields_are_the_headers(slots[DATA].lent, page, da4s);
     accept_all(FIELDS);
     slots_are_as_they_must();
-    reach(CHECK, page == HEADER_07 ? 1 : page == HEADER_08 ? 2 : 0, answer);
+    reach(CHECK, page_variant(page), answer);
+    reach(CHECK_FIELD, page_variant(page), THE_FIELDS->bad_field);
     return answer;
 }
 
@@ -201,11 +239,11 @@ static void make_header(uint8_t page) {
 }
 
 static void check_of_anything(void) {
-    uint8_t page = byte() % 16;
-    if (byte() & 1)
+    uint8_t page = byte() % 16, what = byte();
+    if (what & 1)
         make_header(page);
     else
-        lend(DATA, about(BLOCK), page);
+        lend(DATA, about(BLOCK), what & 2 ? (uint8_t)~page : page);
     check(page, byte() & 1);
 }
 
@@ -229,8 +267,10 @@ static void build(void) {
 
 static void numbers(void) {
     uint8_t any = byte(), class = bumbazeel_class(any);
-    uint16_t status = bumbazeel_status(any);
+    const uint16_t status = bumbazeel_status(any), starts[256] = {0, 0, 0, 10, 12, 16, any == HEADER_07 ? 380 : 381, 382, 12};
     must(class <= BUMBAZEEL_CLASS_RESERVED);
+    for (int field = 0; field < 256; field++)
+        must(bumbazeel_field_byte(any, (uint8_t)field) == starts[field]);
     must(status == (any == 0 ? 0x0000 : any == 1 ? 0x0002 : any == 2 ? 0x0109 : 0xFFFF));
     slots_are_as_they_must();
     reach(NUMBERS, 0, class);
@@ -502,7 +542,7 @@ static void setup(void) {
     lend(STATE, sizeof(struct bumbazeel_state), 0xEE);
     lend(NEXT, sizeof(struct bumbazeel_next), 0xEE);
     uint8_t kind = bumbazeel_setup(page, flags >> 4 & 1, area, caps, chunk, attempts, room, THE_STATE, THE_NEXT);
-    must(kind == THE_NEXT->kind && !THE_NEXT->zero && zeros(THE_STATE->zero, 2));
+    must(kind == THE_NEXT->kind && !THE_NEXT->bad_field && zeros(THE_STATE->zero, 2));
     must(attempts_are_good(attempts) || THE_NEXT->answer == BUMBAZEEL_BAD_SETUP);
     accept_all(STATE);
     accept_all(NEXT);
@@ -575,12 +615,27 @@ static void later_header_was_judged(const struct bumbazeel_state *before) {
         must(host ? next->kind == BUMBAZEEL_ENDED && !next->answer : THE_STATE->phase == BUMBAZEEL_AWAITS_ACKNOWLEDGEMENT);
 }
 
+/* Ending 7 has the field that a check finds at fault in the same header, which is not its length, and nothing else has a field. An
+ * acknowledgement is no header to be judged. */
+static void field_is_the_checks(const struct bumbazeel_state *before) {
+    const struct bumbazeel_next *next = THE_NEXT;
+    const uint8_t field = next->bad_field;
+    struct bumbazeel_fields f;
+    must((field != BUMBAZEEL_FIELD_NONE) == (next->kind == BUMBAZEEL_ENDED && next->answer == BUMBAZEEL_BAD_HEADER));
+    if (!field)
+        return;
+    must(bumbazeel_check(before->page, before->caps & BUMBAZEEL_DA4S, slots[DATA].lent, slots[DATA].bytes, &f) == BUMBAZEEL_BAD_HEADER);
+    must(field == f.bad_field && field != BUMBAZEEL_FIELD_LENGTH && before->phase != BUMBAZEEL_AWAITS_ACKNOWLEDGEMENT);
+    reach(before->phase == BUMBAZEEL_AWAITS_FIRST_HEADER ? FIRST_FIELD : LATER_FIELD, 2u * before->phase + (before->page == HEADER_08), field);
+}
+
 /* Lends the completion in the slot for data. */
 static void step(uint8_t ok) {
     const struct bumbazeel_state before = *THE_STATE;
     lend(NEXT, sizeof(struct bumbazeel_next), 0xEE);
     uint8_t kind = bumbazeel_step(THE_STATE, ok, slots[DATA].lent, slots[DATA].bytes, slots[COPY].lent, slots[COPY].bytes, THE_NEXT);
-    must(kind == THE_NEXT->kind && kind <= BUMBAZEEL_REFUSED && !THE_NEXT->zero);
+    must(kind == THE_NEXT->kind && kind <= BUMBAZEEL_REFUSED);
+    field_is_the_checks(&before);
     accept_all(NEXT);
     reach(STEP, before.phase, kind == BUMBAZEEL_SEND ? SENDS : THE_NEXT->answer);
     if (kind == BUMBAZEEL_REFUSED) {
@@ -711,7 +766,10 @@ int LLVMFuzzerTestOneInput(const uint8_t *bytes, size_t count) {
 
 #ifdef REPLAY
 static void tell_reached(void) {
-    static const char *const names[FUNCTIONS] = {"check", "words", "setup", "step", "fresh", "command", "capture", "drop", "class"};
+    static const char *const names[FUNCTIONS] = {
+        "check",   "words", "setup", "step",             "fresh",                   "command",
+        "capture", "drop",  "class", "field of a check", "field of a first header", "field of a later header",
+    };
     for (int f = 0; f < FUNCTIONS; f++) {
         printf("%s:", names[f]);
         for (int a = 0; a < ANSWERS; a++) {
