@@ -133,3 +133,19 @@ void areas_of(const char *option, const char *text, uint32_t areas[4]) {
         die("%s '%s' is not A1,A2,A3,A4 with A1 <= A2 <= A3 <= A4, A3 at most %d, A4 at most %d, and A4 = 0 if A3 = 0", option, text,
             LAST_OF_AREA_3, LAST_OF_AREA_4);
 }
+
+/* Reads a number and the mark behind it. The text behind both, or NULL if they are not there. */
+static const char *read_up_to(const char *text, char mark, uint64_t *value) {
+    const char *rest = text ? read_number(text, value) : NULL;
+    return rest && *rest == mark ? rest + 1 : NULL;
+}
+
+void header_byte_of(const char *option, const char *text, uint64_t *command, uint16_t *byte, uint32_t *value) {
+    uint64_t n = 0, at = 0, is = 0;
+    bool whole = read_up_to(read_up_to(read_up_to(text, ':', &n), '=', &at), '\0', &is);
+    if (!whole || n < 1 || n > UINT32_MAX || at >= BLOCK || is > UINT8_MAX)
+        die("%s '%s' is not N:BYTE=VALUE with N at least 1, BYTE at most %d and VALUE at most %d", option, text, BLOCK - 1, UINT8_MAX);
+    *command = n;
+    *byte = (uint16_t)at;
+    *value = (uint32_t)is;
+}

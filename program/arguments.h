@@ -45,4 +45,7 @@ uint8_t page_of(const char *option, const char *text);
 /* Four last blocks A1,A2,A3,A4 of a capture. */
 void areas_of(const char *option, const char *text, uint32_t areas[4]);
 
+/* N:BYTE=VALUE, a command's number and a byte of a header. */
+void header_byte_of(const char *option, const char *text, uint64_t *command, uint16_t *byte, uint32_t *value);
+
 #endif

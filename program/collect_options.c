@@ -47,7 +47,9 @@ static const char help[] = "usage: bumbazeel collect [OPTIONS] [DEVICE] OUTPUT\n
                            "  --clear-before N      another host acknowledges before command N (08h)\n"
                            "  --drop-before N       a firmware commit drops the data before command N (07h)\n"
                            "  --refuse N            command N is refused, as by a broken drive\n"
-                           "The last four may be given more than once and happen in their order.\n";
+                           "  --header-byte N:BYTE=VALUE\n"
+                           "                        from command N on this byte of the header is VALUE\n"
+                           "The last five may be given more than once and happen in their order.\n";
 
 /* What is collected, and from which drive. */
 static bool read_wish(struct collect_options *o, struct arguments *a) {

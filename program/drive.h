@@ -45,6 +45,7 @@ struct happening {
         CLEAR,        /* another host acknowledges page 08h */
         DROP,         /* a firmware commit drops the data of page 07h */
         REFUSAL,      /* the command is refused */
+        HEADER_BYTE,  /* from here on a byte of the headers that it gives is another */
         CLOSE_BEFORE, /* its connection is closed, and it is not done */
         CLOSE_UNTOLD, /* it is done, and its connection is closed before it is answered */
         CLOSE_AFTER,  /* it is done and answered, and then its connection is closed */
@@ -53,7 +54,8 @@ struct happening {
     uint64_t before;
     uint8_t page;      /* of a capture; 0: the one that the command asks for */
     uint32_t areas[4]; /* of a capture */
-    uint32_t number;   /* the status of a refusal; the milliseconds of a delay */
+    uint32_t number;   /* the status of a refusal; the milliseconds of a delay; the value of a header's byte, */
+    uint16_t byte;     /* which is this one */
 };
 
 struct embedded {
@@ -83,7 +85,7 @@ struct fate {
 /* Counts a command on the page, and lets happen what is to happen before it. */
 struct fate embedded_before(uint8_t page);
 
-/* The controller's answer to the words; with success data holds what they ask for. */
+/* The controller's answer to the words; with success data holds what they ask for, a header with the bytes that are to be others. */
 uint8_t embedded_answer(const uint32_t words[5], uint8_t *data, size_t bytes);
 
 /* Lets a capture, a clearing or a drop happen now: the controller's answer. */

@@ -1,7 +1,8 @@
 /* The embedded drive: the proved controller over stores in memory.
  *
  * Each capture has contents of its own, made from the seed and the capture's number, so that a copy of two captures would show. Between two
- * commands of the run other hosts act, and firmware is committed, as the happenings say. */
+ * commands of the run other hosts act, firmware is committed, and bytes of the headers that it gives become others than the controller's, as
+ * the happenings say. */
 #include "drive.h"
 
 #include "lazy.h"
@@ -35,6 +36,10 @@ static struct {
     uint8_t *spare; /* where a candidate's contents are made */
     size_t spare_bytes;
     uint64_t captures, sent;
+    struct {
+        bool other;
+        uint8_t value;
+    } header[BLOCK]; /* bytes of the headers that it gives, where they are others than the controller's */
 } here;
 
 /* splitmix64: every word depends on all bits of the seed. */
@@ -124,6 +129,11 @@ static void tell_capture(uint8_t answer, uint8_t page, const uint32_t areas[4]) 
     tell(answer, what);
 }
 
+static void set_header_byte(uint16_t byte, uint8_t value) {
+    here.header[byte].other = true;
+    here.header[byte].value = value;
+}
+
 /* Lets one thing happen before a command on the page. */
 static void let_happen(const struct happening *h, uint8_t page, struct fate *fate) {
     uint8_t captured = h->page ? h->page : page;
@@ -135,6 +145,8 @@ static void let_happen(const struct happening *h, uint8_t page, struct fate *fat
         tell(drop(), "firmware commit");
     else if (h->what == REFUSAL)
         fate->refusal = (uint16_t)(h->number ? h->number : INTERNAL_ERROR);
+    else if (h->what == HEADER_BYTE)
+        set_header_byte(h->byte, (uint8_t)h->number);
     else if (h->what == DELAY)
         fate->delay = h->number;
     else
@@ -155,10 +167,20 @@ struct fate embedded_before(uint8_t page) {
     return fate;
 }
 
+/* Changes the front of a page, of which there may be less than a header. */
+static void change_header(uint8_t *front, size_t bytes) {
+    for (size_t i = 0; i < BLOCK && i < bytes; i++)
+        if (here.header[i].other)
+            front[i] = here.header[i].value;
+}
+
 uint8_t embedded_answer(const uint32_t words[5], uint8_t *data, size_t bytes) {
     bool create = (words[0] & 0xFF) == BUMBAZEEL_HOST_PAGE && words[0] & CREATE_BIT;
     struct candidate c = create ? next_candidate(here.plan.areas) : no_candidate();
-    return command(&c, words, data, bytes);
+    uint8_t answer = command(&c, words, data, bytes);
+    if (!answer && !words[2] && !words[3]) /* at offset 0 */
+        change_header(data, bytes);
+    return answer;
 }
 
 static enum completion embedded_send(struct drive *drive, const uint32_t words[5], uint8_t *data, size_t bytes) {

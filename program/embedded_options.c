@@ -35,6 +35,12 @@ static void read_happening(struct embedded *e, const char *option, enum what wha
         h->areas[3] = UINT32_MAX; /* as --drive-areas, which may come later */
 }
 
+static void read_header_byte(struct embedded *e, const char *option, const char *value) {
+    struct happening *h = add_happening(e, option);
+    *h = (struct happening){.what = HEADER_BYTE};
+    header_byte_of(option, value, &h->before, &h->byte, &h->number);
+}
+
 bool read_embedded_option(struct embedded *e, struct arguments *a) {
     const char *value;
     if (argument_value(a, "--seed", &value))
@@ -59,6 +65,8 @@ bool read_embedded_option(struct embedded *e, struct arguments *a) {
         read_happening(e, "--drop-before", DROP, value);
     else if (argument_value(a, "--refuse", &value))
         read_happening(e, "--refuse", REFUSAL, value);
+    else if (argument_value(a, "--header-byte", &value))
+        read_header_byte(e, "--header-byte", value);
     else
         return false;
     return true;

@@ -50,7 +50,9 @@ static const char help[] = "usage: bumbazeel serve [OPTIONS]\n"
                            "  --drop-before N       a firmware commit drops the data of 07h before telemetry\n"
                            "                        command N\n"
                            "  --refuse N            telemetry command N is refused, as by a broken drive\n"
-                           "The last four may be given more than once and happen in their order. More can be\n"
+                           "  --header-byte N:BYTE=VALUE\n"
+                           "                        from telemetry command N on this byte of headers is VALUE\n"
+                           "The last five may be given more than once and happen in their order. More can be\n"
                            "made to happen from a host, by the vendor command C0h: see the man page.\n";
 
 struct options {
