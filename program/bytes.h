@@ -1,4 +1,4 @@
-/* Little-endian numbers in the bytes of PDUs and commands. */
+/* Little-endian numbers in the bytes of PDUs, commands and headers. */
 #ifndef BYTES_H
 #define BYTES_H
 

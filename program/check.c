@@ -4,6 +4,7 @@
 #include "arguments.h"
 #include "bumbazeel.h"
 #include "each.h"
+#include "fault.h"
 #include "json.h"
 #include "numbers.h"
 #include "say.h"
@@ -23,7 +24,7 @@ static const char help[] = "usage: bumbazeel check [OPTIONS] FILE...\n"
                            "\n"
                            "Shows the header of a saved telemetry page, the first 512 bytes of FILE (- for\n"
                            "standard input), and which areas its length fits. Of several files it shows a\n"
-                           "line each, and counts them.\n"
+                           "line each, and counts them. Of a bad header it tells the field at fault.\n"
                            "\n"
                            "  --page 07h|08h  the page it must be (by default as its first byte says)\n"
                            "  --area4         the drive has area 4 (DA4S 1)\n"
@@ -46,6 +47,7 @@ struct saved {
 
 struct finding {
     struct bumbazeel_fields fields;
+    struct fault fault;
     uint8_t answer;
     bool da4s;
     unsigned areas; /* that the header speaks of: 3 or 4 */
@@ -105,15 +107,24 @@ static struct saved read_saved(const char *name) {
     return saved;
 }
 
-static struct finding find(const struct saved *saved) {
-    struct finding f = {.da4s = options.area_4 != WITHOUT_AREA_4};
+static struct finding judge(const struct saved *saved, bool da4s) {
+    struct finding f = {.da4s = da4s, .areas = da4s ? 4 : 3};
     uint8_t page = options.page ? options.page : saved->header[0];
-    f.answer = bumbazeel_check(page, f.da4s, saved->header, saved->header_bytes, &f.fields);
-    if (f.answer && options.area_4 == EITHER) {
-        f.da4s = false;
-        f.answer = bumbazeel_check(page, f.da4s, saved->header, saved->header_bytes, &f.fields);
-    }
-    f.areas = f.da4s ? 4 : 3;
+    f.answer = bumbazeel_check(page, da4s, saved->header, saved->header_bytes, &f.fields);
+    f.fault = fault_of(f.fields.bad_field, page, da4s, saved->header, saved->header_bytes);
+    return f;
+}
+
+/* Of a header that is bad by both, the fault that comes later is told: the earlier one is area 4's, which a wrong DA4S alone may make. */
+static struct finding judge_by_either(const struct saved *saved) {
+    struct finding with = judge(saved, true), without = judge(saved, false);
+    if (with.answer && (!without.answer || without.fault.field > with.fault.field))
+        return without;
+    return with;
+}
+
+static struct finding find(const struct saved *saved) {
+    struct finding f = options.area_4 == EITHER ? judge_by_either(saved) : judge(saved, options.area_4 == WITH_AREA_4);
     for (unsigned area = 1; area <= f.areas; area++) {
         uint64_t end = BLOCK * (1 + (uint64_t)f.fields.last[area - 1]);
         if (f.answer == BUMBAZEEL_SUCCESS && saved->bytes >= end) {
@@ -173,6 +184,8 @@ static void print_length(const struct finding *f, const struct saved *saved) {
     putchar('\n');
 }
 
+static void print_fault(const struct finding *f) { printf("%u (%s): %s\n", f->answer, meaning(f->answer), fault_text(&f->fault)); }
+
 /* One file of several in a line. */
 static void print_line(const char *name, const struct finding *f, const struct saved *saved) {
     char plain[4096];
@@ -180,7 +193,7 @@ static void print_line(const char *name, const struct finding *f, const struct s
     make_plain(plain);
     printf("%s: ", plain);
     if (f->answer) {
-        printf("%u (%s)\n", f->answer, meaning(f->answer));
+        print_fault(f);
         return;
     }
     printf("%02Xh, generation %u, ", f->fields.page, f->fields.page == 7 ? f->fields.host_generation : f->fields.controller_generation);
@@ -224,6 +237,7 @@ static void print_json(const char *name, const struct finding *f, const struct s
     json_string(name);
     printf(", \"answer\": %u, \"meaning\": ", f->answer);
     json_string(meaning(f->answer));
+    fault_json(&f->fault);
     if (f->answer == BUMBAZEEL_SUCCESS)
         print_fields(f);
     printf(", \"file_bytes\": %llu, \"areas_held\": %u, \"length_fits\": %s}\n", (unsigned long long)saved->bytes, f->held,
@@ -240,8 +254,10 @@ static int check_file(const char *name) {
         print_line(name, &f, &saved);
     else if (f.answer == BUMBAZEEL_SUCCESS)
         print_table(&f, &saved);
-    else
-        printf("%-24s%u (%s)\n", "header", f.answer, meaning(f.answer));
+    else {
+        printf("%-24s", "header");
+        print_fault(&f);
+    }
     close_stdout("");
     return status_of(&f);
 }

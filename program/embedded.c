@@ -225,7 +225,7 @@ bool embedded_notice(void) { return here.record.notice; }
 
 size_t embedded_held(uint8_t page, uint8_t header[BLOCK], const uint8_t **blocks) {
     struct candidate none = no_candidate();
-    struct bumbazeel_fields fields; /* zeros of a bad header */
+    struct bumbazeel_fields fields; /* no last blocks of a bad header */
     uint32_t words[5];
     bumbazeel_words(page, 0, 0, 1, 0, 1, words);
     uint8_t answer = command(&none, words, header, BLOCK);

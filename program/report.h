@@ -3,6 +3,7 @@
 #define REPORT_H
 
 #include "drive.h"
+#include "fault.h"
 
 #include <stdbool.h>
 #include <stddef.h>
@@ -19,6 +20,7 @@ struct report {
     bool create;
     bool ended;                /* the collection has an ending, which is `ending` */
     uint8_t ending;
+    struct fault fault;        /* with ending 7, of the header just judged */
     uint32_t attempts, failed;
     uint64_t commands; /* Get Log Pages of the page collected that were sent */
     bool newer;        /* a newer capture was acknowledged unread */

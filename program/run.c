@@ -64,7 +64,7 @@ static void begin(struct under_way *r) {
 }
 
 static struct bumbazeel_fields fields_of(const struct under_way *r, const uint8_t *header) {
-    struct bumbazeel_fields fields; /* zeros of a bad header */
+    struct bumbazeel_fields fields; /* no last blocks of a bad header */
     bumbazeel_check(r->wish->page, r->drive->caps & BUMBAZEEL_DA4S, header, BLOCK, &fields);
     return fields;
 }
@@ -171,6 +171,7 @@ static void put_report(const struct under_way *r) {
     report.attempts = used_up ? r->wish->attempts : r->earlier + r->state.attempt;
     report.failed = used_up ? report.attempts : report.attempts - 1;
     report.ending = r->next.answer; /* 0 of a run that goes no further than the acknowledgement */
+    report.fault = fault_of(r->next.bad_field, r->wish->page, r->drive->caps & BUMBAZEEL_DA4S, r->data, BLOCK);
 }
 
 /* The next command. False: the run goes no further. */

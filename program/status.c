@@ -5,6 +5,7 @@
 #include "bumbazeel.h"
 #include "drive.h"
 #include "each.h"
+#include "fault.h"
 #include "json.h"
 #include "names.h"
 #include "numbers.h"
@@ -48,8 +49,16 @@ static void read_options(char **words) {
         die("status needs DEVICE, such as /dev/nvme0 (bumbazeel list shows those at hand)");
 }
 
-/* The header's fields, or the answer that says why there are none. */
-static uint8_t ask(struct drive *drive, struct bumbazeel_fields *fields) {
+/* The header's fields, or the answer that says why there are none, with the fault of a bad header. */
+struct finding {
+    uint8_t answer;
+    struct bumbazeel_fields fields;
+    struct fault fault;
+};
+
+static struct finding ask(struct drive *drive) {
+    struct finding f = {.answer = BUMBAZEEL_BROKE_ITS_WORD};
+    bool da4s = drive->caps & BUMBAZEEL_DA4S;
     uint32_t words[5];
     uint8_t header[BLOCK];
     if (!(drive->caps & BUMBAZEEL_TELEMETRY))
@@ -59,8 +68,10 @@ static uint8_t ask(struct drive *drive, struct bumbazeel_fields *fields) {
     if (completion == LOST)
         die("%s: %s", drive->path, drive->trouble);
     if (completion == REFUSED)
-        return BUMBAZEEL_BROKE_ITS_WORD;
-    return bumbazeel_check(options.page, drive->caps & BUMBAZEEL_DA4S, header, sizeof header, fields);
+        return f;
+    f.answer = bumbazeel_check(options.page, da4s, header, sizeof header, &f.fields);
+    f.fault = fault_of(f.fields.bad_field, options.page, da4s, header, sizeof header);
+    return f;
 }
 
 static uint32_t greatest(const struct bumbazeel_fields *fields) {
@@ -73,22 +84,30 @@ static bool something(const struct bumbazeel_fields *fields) { return options.pa
 /* `meaning` has 08h's words for nothing. */
 static const char *in_words(uint8_t answer) { return answer == BUMBAZEEL_NOTHING ? "nothing" : meaning(answer); }
 
-static void print_line(const struct drive *drive, uint8_t answer, const struct bumbazeel_fields *fields) {
+/* What is at fault in the header, or why it was refused; NULL: neither. */
+static const char *reason(const struct drive *drive, const struct fault *fault) {
+    return fault->field ? fault_text(fault) : drive->refusal ? status_name(drive->refusal) : NULL;
+}
+
+static void print_line(const struct drive *drive, const struct finding *f) {
+    const struct bumbazeel_fields *fields = &f->fields;
+    const char *why = reason(drive, &f->fault);
     char path[4096];
     snprintf(path, sizeof path, "%s", drive->path);
     make_plain(path);
     printf("%s  %s  %s  %02Xh: ", path, drive->serial, drive->model, options.page);
-    if (answer == BUMBAZEEL_SUCCESS)
+    if (f->answer == BUMBAZEEL_SUCCESS)
         printf("yes, generation %u, %u blocks, %llu bytes\n",
                options.page == 7 ? fields->host_generation : fields->controller_generation, (unsigned)greatest(fields),
                (unsigned long long)BLOCK * (1 + (uint64_t)greatest(fields)));
     else
-        printf("%u (%s)%s%s\n", answer, in_words(answer), drive->refusal ? ": " : "", drive->refusal ? status_name(drive->refusal) : "");
+        printf("%u (%s)%s%s\n", f->answer, in_words(f->answer), why ? ": " : "", why ? why : "");
 }
 
-static void print_json(const struct drive *drive, uint8_t answer, const struct bumbazeel_fields *fields) {
-    bool known = answer == BUMBAZEEL_SUCCESS || answer == BUMBAZEEL_NOTHING;
-    printf("{\"status\": %u, \"error\": null, \"device\": ", answer);
+static void print_json(const struct drive *drive, const struct finding *f) {
+    const struct bumbazeel_fields *fields = &f->fields;
+    bool known = f->answer == BUMBAZEEL_SUCCESS || f->answer == BUMBAZEEL_NOTHING;
+    printf("{\"status\": %u, \"error\": null, \"device\": ", f->answer);
     json_string(drive->path);
     printf(", \"serial\": ");
     json_string(drive->serial);
@@ -97,7 +116,8 @@ static void print_json(const struct drive *drive, uint8_t answer, const struct b
     printf(", \"firmware\": ");
     json_string(drive->firmware);
     printf(", \"page\": \"%02Xh\", \"meaning\": ", options.page);
-    json_string(in_words(answer));
+    json_string(in_words(f->answer));
+    fault_json(&f->fault);
     if (known)
         printf(", \"generation\": %u, \"last_blocks\": [%u, %u, %u, %u]",
                options.page == 7 ? fields->host_generation : fields->controller_generation, (unsigned)fields->last[0],
@@ -106,18 +126,17 @@ static void print_json(const struct drive *drive, uint8_t answer, const struct b
 }
 
 static int tell_status(const char *path) {
-    struct bumbazeel_fields fields = {.page = options.page};
     struct drive *drive = device_open(path, options.timeout);
-    uint8_t answer = ask(drive, &fields);
-    if (answer == BUMBAZEEL_SUCCESS && !something(&fields))
-        answer = BUMBAZEEL_NOTHING;
+    struct finding f = ask(drive);
+    if (f.answer == BUMBAZEEL_SUCCESS && !something(&f.fields))
+        f.answer = BUMBAZEEL_NOTHING;
     say_at_death(NULL); /* its object is the one that is printed here */
     if (options.json)
-        print_json(drive, answer, &fields);
+        print_json(drive, &f);
     else
-        print_line(drive, answer, &fields);
+        print_line(drive, &f);
     close_stdout("");
-    return answer;
+    return f.answer;
 }
 
 int status_command(char **words) {

@@ -9,6 +9,7 @@
  *   BUMBAZEEL_SHIM_LPA=N        the LPA that it shows (default 6Ch: extended data, telemetry, page 00h, area 4)
  *   BUMBAZEEL_SHIM_CAPTURE=N    a capture of the page asked for comes right before the N-th Get Log Page
  *   BUMBAZEEL_SHIM_DROP=N       a drop comes right before the N-th Get Log Page, and before a capture that comes there too
+ *   BUMBAZEEL_SHIM_HEADER=BYTE=VALUE[,BYTE=VALUE..]   these bytes of the headers that it gives have these values
  *   BUMBAZEEL_SHIM_GONE=N       the drive is gone from the N-th Get Log Page of 07h or 08h on
  *   BUMBAZEEL_SHIM_FAIL=N,before|after,RESULT   the N-th admin command fails before or after the drive acted: with the error number -RESULT
  *                               if RESULT is negative, else with this NVMe status
@@ -208,6 +209,15 @@ static int get_supported(uint8_t *data, size_t bytes) {
     return 0;
 }
 
+static void change_header(uint8_t *header) {
+    const char *at = getenv("BUMBAZEEL_SHIM_HEADER");
+    unsigned byte, value;
+    for (int used = 0; at && *at; at += used + (at[used] == ',')) {
+        must(sscanf(at, "%u=%u%n", &byte, &value, &used) == 2 && byte < BLOCK && value < 256, "BUMBAZEEL_SHIM_HEADER wants BYTE=VALUE,..");
+        header[byte] = (uint8_t)value;
+    }
+}
+
 static int get_log_page(const uint32_t words[5], uint8_t *data, size_t bytes) {
     uint8_t page = words[0] & 0xFF;
     if (page == 0) {
@@ -228,6 +238,8 @@ static int get_log_page(const uint32_t words[5], uint8_t *data, size_t bytes) {
     uint8_t answer = command(words, data, bytes);
     uint16_t status = bumbazeel_status(answer);
     must(status != 0xFFFF, "the controller is lent too little");
+    if (!answer && !words[2] && !words[3])
+        change_header(data);
     log_line("%08X %08X %08X %08X %08X %04X\n", words[0], words[1], words[2], words[3], words[4], status);
     return status;
 }
