@@ -53,8 +53,8 @@ number-range Empty e n = (omega arith, omega arith)
 -- of any bytes of a state, any data and any copy
 module _ (s : List ℕ) (ok : Bool) (d copy : List ℕ) where
   -- what is at fault in the data, as a header of the page that the state's bytes speak of, under the DA4S of their capabilities
-  abbrev pub faultIn : Fault
-  faultIn = checkOf (getD s 1 0) (capsOf (getD s 4 0) .da4s) d .fault
+  abbrev pub lentFault : Fault
+  lentFault = checkOf (getD s 1 0) (capsOf (getD s 4 0) .da4s) d .fault
 
   -- struct bumbazeel_next and struct bumbazeel_state as the step leaves them
   abbrev pub followsIn : List ℕ
@@ -65,7 +65,7 @@ module _ (s : List ℕ) (ok : Bool) (d copy : List ℕ) where
 
   -- what is said of `bad_field` with `answer`
   abbrev Carries : List ℕ → Type 0
-  Carries next = fieldIn next ≡ pick (eqb (answerIn next) badHeader) (faultNumber faultIn) 0
+  Carries next = fieldIn next ≡ pick (eqb (answerIn next) badHeader) (faultNumber lentFault) 0
 
   abbrev n : Next
   n = stepOf (stateAt s) ok d (length copy) .next
@@ -76,9 +76,9 @@ module _ (s : List ℕ) (ok : Bool) (d copy : List ℕ) where
       field-back n
       ∙ ap faultNumber (step-carries (stateAt s) ok d (length copy))
       ∙ number (eqb (answerOf n) badHeader)
-      ∙ ap (λ (a : ℕ). pick (eqb a badHeader) (faultNumber faultIn) 0) (sym (answer-back n))
+      ∙ ap (λ (a : ℕ). pick (eqb a badHeader) (faultNumber lentFault) 0) (sym (answer-back n))
     where
-      number : (t : Bool) → faultNumber (pick t faultIn None) ≡ pick t (faultNumber faultIn) 0
+      number : (t : Bool) → faultNumber (pick t lentFault None) ≡ pick t (faultNumber lentFault) 0
       number true = refl
       number false = refl
 
@@ -99,7 +99,7 @@ module _ (s : List ℕ) (ok : Bool) (d copy : List ℕ) where
   damaged = refl
 
   -- A step tells the field at fault in its data with answer 7, and none with any other.
-  pub c-step-carries : fieldIn followsIn ≡ pick (eqb (answerIn followsIn) badHeader) (faultNumber faultIn) 0
+  pub c-step-carries : fieldIn followsIn ≡ pick (eqb (answerIn followsIn) badHeader) (faultNumber lentFault) 0
   c-step-carries =
       by-test (stateIntact s)
       (λ e. subst (λ (next : List ℕ). Carries next) (sym (intact-follows e)) carried)
@@ -129,21 +129,20 @@ module _ (s : List ℕ) (ok : Bool) (d copy : List ℕ) where
     c-step-range =
         let b = c-step-bad in
         subst (λ (k : ℕ). (2 ≤ k) × (k ≤ 8)) (sym (c-step-carries ∙ rw q))
-        (number-range faultIn (b .bad) (not-length (getD s 1 0) (capsOf (getD s 4 0) .da4s) d (b .long)))
+        (number-range lentFault (b .bad) (not-length (getD s 1 0) (capsOf (getD s 4 0) .da4s) d (b .long)))
 
     page-kept : getD leftIn 1 0 ≡ getD s 1 0
     unfolding stateAt stateBytes
     page-kept =
-        let x = stepOf (stateAt s) ok d (length copy) in
         ap (λ (y : StepAnswer). getD (y .state) 1 0) (step-is true intact)
         ∙ ap (λ (y : Stepped). getD (stateAfter s (kindOf (y .next)) (y .state)) 1 0) (bad-ends (stateAt s) ok d (length copy) c-step-bad)
 
     -- and `bumbazeel_field_byte` of it and of the page in the state that is left is the byte where that field starts
-    pub c-step-byte : byteOf (getD leftIn 1 0) (faultBy (fieldIn followsIn)) ≡ byteOf (getD s 1 0) faultIn
+    pub c-step-byte : byteOf (getD leftIn 1 0) (faultBy (fieldIn followsIn)) ≡ byteOf (getD s 1 0) lentFault
     c-step-byte =
         ap (λ (page : ℕ). byteOf page (faultBy (fieldIn followsIn))) page-kept
         ∙ ap (λ (k : ℕ). byteOf (getD s 1 0) (faultBy k)) (c-step-carries ∙ rw q)
-        ∙ ap (byteOf (getD s 1 0)) (fault-back faultIn)
+        ∙ ap (byteOf (getD s 1 0)) (fault-back lentFault)
 
   -- every such header of an intact state that the step takes gets 7
   pub c-bad-ends : stateIntact s ≡ true → Bad (stateAt s) ok d (length copy) → answerIn followsIn ≡ badHeader

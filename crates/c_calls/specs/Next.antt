@@ -6,7 +6,7 @@ use mathlib.Core.Path.{_≡_, refl, sym, subst}
 use mathlib.Core.List.{List}
 use mathlib.Core.Bool.{Bool}
 use native.Mathlib.Omega.{arith}
-use lib.ListN.{length, getD}
+use lib.ListN.{length}
 use Rattle.choices.specs.Choice.{pick, pick-cases, one}
 use Rattle.choices.specs.Tests.{same-or-not, each}
 use Rattle.littleendian.specs.Numbers.{valueAt}

@@ -12,6 +12,7 @@ use Rattle.choices.specs.Choice.{pick, pick-cases}
 use Rattle.choices.specs.Tests.{each, and-left, and-right}
 use Rattle.answers.specs.Answers.{success, badHeader}
 use Rattle.pages.specs.Pages.{controllerPage}
+use Rattle.header.specs.declared.Fault.{Fault}
 use Rattle.header.specs.declared.Fault.the-variants.{None}
 use Rattle.header.specs.Header.{faultless}
 use Rattle.plans.specs.declared.Phase.{Phase}
@@ -110,21 +111,21 @@ settled-is s ok d copy e f = rw (f, e)
 
 -- ---- the move that a completion calls for
 
--- what an ending says of a header's fault: with 7 what is at fault in the header, which is one that is judged and came; with any other number nothing
-pub record Says (s : Collection) (ok : Bool) (h : Seen) (e : Ending) : Type 0 where
-  pub fault : faultIn e ≡ pick (eqb (numberOf e) badHeader) (h .fault) None
-  pub judged : numberOf e ≡ badHeader → judgedBy (s .phase) ≡ true
-  pub came : numberOf e ≡ badHeader → ok ≡ true
-  pub bad : numberOf e ≡ badHeader → faultless (h .fault) ≡ false
+-- what an answer of this number says of a header's fault: with 7 what is at fault in the header, which is one that is judged and came; with any other nothing
+pub record Says (s : Collection) (ok : Bool) (h : Seen) (number : ℕ) (fault : Fault) : Type 0 where
+  pub told : fault ≡ pick (eqb number badHeader) (h .fault) None
+  pub judged : number ≡ badHeader → judgedBy (s .phase) ≡ true
+  pub came : number ≡ badHeader → ok ≡ true
+  pub bad : number ≡ badHeader → faultless (h .fault) ≡ false
 
-pub says-nothing : {s : Collection} {ok : Bool} {h : Seen} (e : Ending) → faultIn e ≡ None → eqb (numberOf e) badHeader ≡ false → Says s ok h e
-says-nothing e x t =
-    let n = eqb-false (numberOf e) badHeader t in
-    record { fault = x ∙ rw t; judged = λ q. absurd (n q); came = λ q. absurd (n q); bad = λ q. absurd (n q) }
+pub says-nothing : {s : Collection} {ok : Bool} {h : Seen} {number : ℕ} {fault : Fault} → fault ≡ None → eqb number badHeader ≡ false → Says s ok h number fault
+says-nothing {number = number} x t =
+    let n = eqb-false number badHeader t in
+    record { told = x ∙ rw t; judged = λ q. absurd (n q); came = λ q. absurd (n q); bad = λ q. absurd (n q) }
 
 -- all moves that a completion can call for in a state, each with what holds then
 pub record Moves (P : Move → Type 0) (s : Collection) (ok : Bool) (h : Seen) : Type 0 where
-  pub fail : (e : Ending) → good e ≡ false → Says s ok h e → P (End e false)
+  pub fail : (e : Ending) → good e ≡ false → Says s ok h (numberOf e) (faultIn e) → P (End e false)
   pub large : closingBy (s .phase) ≡ true → s .attempt .number < s .plan .attempts → P (End NoRoom true)
   pub first : s .phase ≡ First → fitsRoom (s .plan) (h .last) ≡ true → P (Open false)
   pub again : closingBy (s .phase) ≡ true → s .attempt .number < s .plan .attempts → fitsRoom (s .plan) (h .last) ≡ true → P (Open true)
@@ -140,35 +141,35 @@ module _ (P : Move → Type 0) (s : Collection) (ok : Bool) (h : Seen) (m : Move
   unfolding matchOrder testsOf
   by-match after e =
       let f : closingBy (s .phase) ≡ true = rw e in
-      pick-cases P (matches (s .attempt) h && after) (λ b. m .fail BrokeItsWord refl (says-nothing BrokeItsWord refl refl))
+      pick-cases P (matches (s .attempt) h && after) (λ b. m .fail BrokeItsWord refl (says-nothing refl refl))
       (λ b. pick-cases P (matches (s .attempt) h && eqb (s .plan .page) controllerPage)
       (λ w. let q = and-left (matches (s .attempt) h) (eqb (s .plan .page) controllerPage) w in
       let a : after ≡ false = rw q at b in
       m .acknowledge (e ∙ ap Close a) q (eqb-true _ _ (and-right (matches (s .attempt) h) (eqb (s .plan .page) controllerPage) w)))
       (λ w. pick-cases P (matches (s .attempt) h)
       (λ q. let a : after ≡ false = rw q at b in m .stand (e ∙ ap Close a) q (rw q at w))
-      (λ q. pick-cases P (leb (s .plan .attempts) (s .attempt .number)) (λ u. m .fail UsedUp refl (says-nothing UsedUp refl refl))
+      (λ q. pick-cases P (leb (s .plan .attempts) (s .attempt .number)) (λ u. m .fail UsedUp refl (says-nothing refl refl))
       (λ u. let l = leb-false (s .plan .attempts) (s .attempt .number) u in
       pick-cases P (not (fitsRoom (s .plan) (h .last))) (λ r. m .large f l) (λ r. m .again f l (not-false _ r))))))
 
   -- a bad header
   by-fault : judgedBy (s .phase) ≡ true → not ok ≡ false → not (faultless (h .fault)) ≡ true → P (End (BadHeader (h .fault)) false)
-  by-fault j k g = m .fail (BadHeader (h .fault)) refl (record { fault = refl; judged = λ q. j; came = λ q. not-false ok k; bad = λ q. not-true _ g })
+  by-fault j k g = m .fail (BadHeader (h .fault)) refl (record { told = refl; judged = λ q. j; came = λ q. not-false ok k; bad = λ q. not-true _ g })
 
   by-phase : (f : Phase) → s .phase ≡ f → P (judgeBy f (testsOf (s .plan) (s .attempt) ok h))
   unfolding judgeBy firstOrder laterOrder testsOf
   by-phase First e =
-      pick-cases P (not ok) (λ k. m .fail BrokeItsWord refl (says-nothing BrokeItsWord refl refl))
+      pick-cases P (not ok) (λ k. m .fail BrokeItsWord refl (says-nothing refl refl))
       (λ k. pick-cases P (not (faultless (h .fault))) (λ g. by-fault (ap judgedBy e) k g)
-      (λ g. pick-cases P (showsNone (s .plan) h) (λ n. m .fail Nothing refl (says-nothing Nothing refl refl))
-      (λ n. pick-cases P (not (fitsRoom (s .plan) (h .last))) (λ r. m .fail NoRoom refl (says-nothing NoRoom refl refl)) (λ r. m .first e (not-false _ r)))))
+      (λ g. pick-cases P (showsNone (s .plan) h) (λ n. m .fail Nothing refl (says-nothing refl refl))
+      (λ n. pick-cases P (not (fitsRoom (s .plan) (h .last))) (λ r. m .fail NoRoom refl (says-nothing refl refl)) (λ r. m .first e (not-false _ r)))))
   by-phase (Chunk at) e = pick-cases P (not ok) (λ k. m .skip at e (not-true ok k)) (λ k. m .more at e (not-false _ k))
   by-phase (Close after) e =
-      pick-cases P (not ok) (λ k. m .fail BrokeItsWord refl (says-nothing BrokeItsWord refl refl))
+      pick-cases P (not ok) (λ k. m .fail BrokeItsWord refl (says-nothing refl refl))
       (λ k. pick-cases P (not (faultless (h .fault))) (λ g. by-fault (ap judgedBy e) k g)
-      (λ g. pick-cases P (showsNone (s .plan) h) (λ n. m .fail Withdrawn refl (says-nothing Withdrawn refl refl)) (λ n. by-match after e)))
-  by-phase Ack e = pick-cases P (not ok) (λ k. m .fail BrokeItsWord refl (says-nothing BrokeItsWord refl refl)) (λ k. m .done e (not-false _ k))
-  by-phase Ended e = m .fail BrokeItsWord refl (says-nothing BrokeItsWord refl refl)
+      (λ g. pick-cases P (showsNone (s .plan) h) (λ n. m .fail Withdrawn refl (says-nothing refl refl)) (λ n. by-match after e)))
+  by-phase Ack e = pick-cases P (not ok) (λ k. m .fail BrokeItsWord refl (says-nothing refl refl)) (λ k. m .done e (not-false _ k))
+  by-phase Ended e = m .fail BrokeItsWord refl (says-nothing refl refl)
 
   pub move-cases : P (moveOf s ok h)
   unfolding moveOf

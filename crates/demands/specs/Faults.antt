@@ -21,11 +21,8 @@ use Rattle.plans.specs.Awaited.{header-block}
 use Rattle.completions.specs.declared.Seen.{Seen}
 use Rattle.completions.specs.Completions.{seenOf}
 use Rattle.completions.specs.Looked.{look-header}
-use Rattle.judgement.specs.declared.Ending.{Ending}
-use Rattle.judgement.specs.declared.Ending.the-variants.{Success, BadHeader, NoRoom}
+use Rattle.judgement.specs.declared.Ending.the-variants.{BadHeader}
 use Rattle.judgement.specs.declared.Move.{Move}
-use Rattle.judgement.specs.declared.Move.the-variants.{End, Open, More, Skip, Acknowledge}
-use Rattle.judgement.specs.Judgement.{newerThan}
 use Rattle.turns.specs.Refusals.{firstRefusal}
 use Rattle.collection.specs.declared.Collection.{Collection}
 use Rattle.collection.specs.declared.Stepped.{Stepped}
@@ -37,39 +34,23 @@ use Rattle.collection.specs.Steps.{endedIn, makes, setup-taken, setup-refused, 
 pub setup-carries : (p : Plan) → faultSaid (setupOf p .next) ≡ None
 setup-carries p = same-or-not (setupAnswer p) success (λ e. rw (setup-taken p e)) (λ e. rw (setup-refused p e))
 
--- ---- what a move says
+-- what a move says
+abbrev Tells : Collection → Bool → Seen → Stepped → Type 0
+Tells s ok h x = Says s ok h (answerOf (x .next)) (faultSaid (x .next))
 
--- as an ending of that number and fault would
-record Tells (s : Collection) (ok : Bool) (h : Seen) (x : Stepped) : Type 0 where
-  fault : faultSaid (x .next) ≡ pick (eqb (answerOf (x .next)) badHeader) (h .fault) None
-  judged : answerOf (x .next) ≡ badHeader → judgedBy (s .phase) ≡ true
-  came : answerOf (x .next) ≡ badHeader → ok ≡ true
-  bad : answerOf (x .next) ≡ badHeader → faultless (h .fault) ≡ false
-
-module _ (s : Collection) (ok : Bool) (h : Seen) where
-  ending : (e : Ending) (next : Bool) → Says s ok h e → Tells s ok h (makes s h (End e next))
-  unfolding makes
-  ending e next t = record { fault = t .fault; judged = t .judged; came = t .came; bad = t .bad }
-
-  sending : {x : Stepped} → faultSaid (x .next) ≡ None → answerOf (x .next) ≡ success → Tells s ok h x
-  sending {x = x} f a =
-      let t : eqb (answerOf (x .next)) badHeader ≡ false = rw a in
-      let n = eqb-false (answerOf (x .next)) badHeader t in
-      record { fault = f ∙ rw t; judged = λ q. absurd (n q); came = λ q. absurd (n q); bad = λ q. absurd (n q) }
-
-  tells : Tells s ok h (makes s h (moveOf s ok h))
-  unfolding makes
-  tells = move-cases (λ (m : Move). Tells s ok h (makes s h m)) s ok h (record {
-    fail = λ e l t. ending e false t;
-    large = λ f l. ending NoRoom true (says-nothing NoRoom refl refl);
-    first = λ f r. sending refl refl;
-    again = λ f l r. sending refl refl;
-    more = λ at f y. sending refl refl;
-    skip = λ at f n. sending refl refl;
-    acknowledge = λ f m p. sending refl refl;
-    stand = λ f m n. ending (Success false) false (says-nothing (Success false) refl refl);
-    done = λ f y. ending (Success (newerThan (s .attempt) h)) false (says-nothing (Success (newerThan (s .attempt) h)) refl refl);
-  })
+tells : (s : Collection) (ok : Bool) (h : Seen) → Tells s ok h (makes s h (moveOf s ok h))
+unfolding makes
+tells s ok h = move-cases (λ (m : Move). Tells s ok h (makes s h m)) s ok h (record {
+  fail = λ e l t. t;
+  large = λ f l. says-nothing refl refl;
+  first = λ f r. says-nothing refl refl;
+  again = λ f l r. says-nothing refl refl;
+  more = λ at f y. says-nothing refl refl;
+  skip = λ at f n. says-nothing refl refl;
+  acknowledge = λ f m p. says-nothing refl refl;
+  stand = λ f m n. says-nothing refl refl;
+  done = λ f y. says-nothing refl refl;
+})
 
 -- ---- a step
 
@@ -119,7 +100,7 @@ module _ (s : Collection) (ok : Bool) (d : List ℕ) (n : ℕ) where
 
     taken-carries : faultSaid (stepOf s ok d n .next) ≡ pick (eqb (answerOf (stepOf s ok d n .next)) badHeader) dataFault None
     taken-carries =
-        t .fault
+        t .told
         ∙ same-or-not (answerOf (stepOf s ok d n .next)) badHeader
         (λ q. rw (eq-eqb _ badHeader q) (same-fault (t .judged q)))
         (λ q. rw (ne-eqb _ badHeader q))

@@ -25,23 +25,23 @@ order = Length ∷ Identifier ∷ Area2 ∷ Area3 ∷ Area4 ∷ Scope ∷ Availa
 
 module _ (page : ℕ) (da4s : Bool) (h : List ℕ) where
   -- the number of one, two or four bytes where a field starts
-  abbrev pub valueOf : ℕ → Fault → ℕ
-  valueOf n x = valueAt n (byteOf page x) h
+  abbrev pub valueThere : ℕ → Fault → ℕ
+  valueThere n x = valueAt n (byteOf page x) h
 
   -- the field is at fault. Area 1's last block stands at byte 8. Available is any TCDA but 0, since one over 1 is told before available but empty
   abbrev pub atFault : Fault → Bool
   atFault None = false
   atFault Length = not (eqb (length h) block)
-  atFault Identifier = not (telemetryPage page && eqb (valueOf 1 Identifier) page)
-  atFault Area2 = ltb (valueOf 2 Area2) (valueAt 2 8 h)
-  atFault Area3 = ltb (valueOf 2 Area3) (valueOf 2 Area2)
+  atFault Identifier = not (telemetryPage page && eqb (valueThere 1 Identifier) page)
+  atFault Area2 = ltb (valueThere 2 Area2) (valueAt 2 8 h)
+  atFault Area3 = ltb (valueThere 2 Area3) (valueThere 2 Area2)
   atFault Area4 =
       pick da4s
-      (ltb (valueOf 4 Area4) (valueOf 2 Area3) || (ltb most4 (valueOf 4 Area4) || (ltb 0 (valueOf 4 Area4) && eqb (valueOf 2 Area3) 0)))
-      (ltb 0 (valueOf 4 Area4))
-  atFault Scope = ltb 2 (valueOf 1 Scope)
-  atFault Available = ltb 1 (valueOf 1 Available)
-  atFault Empty = not (eqb page hostPage) && (ltb 0 (valueOf 1 Available) && eqb (valueOf 2 Empty) 0)
+      (ltb (valueThere 4 Area4) (valueThere 2 Area3) || (ltb most4 (valueThere 4 Area4) || (ltb 0 (valueThere 4 Area4) && eqb (valueThere 2 Area3) 0)))
+      (ltb 0 (valueThere 4 Area4))
+  atFault Scope = ltb 2 (valueThere 1 Scope)
+  atFault Available = ltb 1 (valueThere 1 Available)
+  atFault Empty = not (eqb page hostPage) && (ltb 0 (valueThere 1 Available) && eqb (valueThere 2 Empty) 0)
 
 -- ---- the check's own tests are these
 

@@ -1,7 +1,7 @@
 -- A command of the run keeps the invariant: it is answered by the source, and its completion is handed to the collection.
 -- Assumes nothing.
 use Prim.Native.Nat.{ℕ, _+_, _-_, _≤_, _<_}
-use mathlib.Core.Path.{_≡_, refl, sym, ap, subst, _∙_}
+use mathlib.Core.Path.{_≡_, refl, ap, subst, _∙_}
 use mathlib.Core.List.{List, [], _∷_}
 use mathlib.Core.Bool.{Bool, true, false}
 use native.Mathlib.Omega.{arith}
@@ -14,7 +14,6 @@ use Rattle.answers.specs.Answers.{success}
 use Rattle.pages.specs.Pages.{most4}
 use Rattle.plans.specs.declared.Plan.{Plan}
 use Rattle.plans.specs.declared.Phase.{Phase}
-use Rattle.plans.specs.declared.Phase.the-variants.{First, Chunk, Close, Ack, Ended}
 use Rattle.plans.specs.Phases.{judgedBy, endedBy}
 use Rattle.plans.specs.Plans.{areaLast, phaseAt}
 use Rattle.collection.specs.Collection.{expectedOf, completionFits, refusalOf, numberIn, ends, stepOf, copyAfter}
