@@ -23,7 +23,7 @@ extern "C" {
 
 /* ---- the version of this file and of the library that it belongs to */
 #define BUMBAZEEL_VERSION_MAJOR 0
-#define BUMBAZEEL_VERSION_MINOR 1
+#define BUMBAZEEL_VERSION_MINOR 2
 #define BUMBAZEEL_VERSION_PATCH 0
 
 /* ---- the pages, and the limits that the functions hold their arguments to */
@@ -75,7 +75,7 @@ enum { BUMBAZEEL_CLASS_NAMED = 0, BUMBAZEEL_CLASS_ELSEWHERE = 1, BUMBAZEEL_CLASS
 enum {
     BUMBAZEEL_FIELD_NONE = 0,       /* no field is told: the answer is not 7 */
     BUMBAZEEL_FIELD_LENGTH = 1,     /* the header has not 512 bytes */
-    BUMBAZEEL_FIELD_IDENTIFIER = 2, /* the page asked for is neither 07h nor 08h, or the header's first byte is not that page */
+    BUMBAZEEL_FIELD_IDENTIFIER = 2, /* the header's first byte is not the page asked for */
     BUMBAZEEL_FIELD_AREA_2 = 3,     /* the last block of area 2 is below that of area 1 */
     BUMBAZEEL_FIELD_AREA_3 = 4,     /* the last block of area 3 is below that of area 2 */
     BUMBAZEEL_FIELD_AREA_4 = 5,     /* the last block of area 4 is, without DA4S, not 0; with DA4S below that of area 3, over 1,048,576, or
@@ -85,20 +85,22 @@ enum {
     BUMBAZEEL_FIELD_EMPTY = 8       /* available but empty: on 08h TCDA is 1, and the last block of area 3 is 0 */
 };
 
-/* What a check finds of a header. 156 bytes. Of a good one, what it says; of a bad one, the field at fault with its byte, and zeros. */
-struct bumbazeel_fields {
+/* What a plan gives. 160 bytes. With 0, what the header says and the number of chunks; with 7, the field at fault with its byte, and zeros; with
+ * any other answer, zeros. */
+struct bumbazeel_planned {
     uint8_t page;                  /*   0: 07h or 08h */
     uint8_t scope;                 /*   1 */
     uint8_t host_generation;       /*   2: 0 on 08h */
     uint8_t available;             /*   3: TCDA */
     uint8_t controller_generation; /*   4 */
-    uint8_t bad_field;             /*   5: of a bad header the field at fault, one of those above; of a good one 0 */
-    uint16_t bad_byte;             /*   6: and the byte of the header at which that field starts; of a good one 0 */
+    uint8_t bad_field;             /*   5: with 7 the field at fault, one of those above; else 0 */
+    uint16_t bad_byte;             /*   6: and the byte of the header at which that field starts; else 0 */
     uint32_t oui;                  /*   8 */
     uint32_t last[4];              /*  12: last blocks of areas 1 to 4 */
     uint8_t reason[128];           /*  28 */
+    uint32_t chunks;               /* 156: the commands that bring the wanted area: its blocks divided by `chunk`, rounded up */
 };
-BUMBAZEEL_ASSERT(sizeof(struct bumbazeel_fields) == 156, "struct bumbazeel_fields has 156 bytes");
+BUMBAZEEL_ASSERT(sizeof(struct bumbazeel_planned) == 160, "struct bumbazeel_planned has 160 bytes");
 
 /* What a collection awaits. */
 enum {
@@ -165,9 +167,12 @@ BUMBAZEEL_ASSERT(sizeof(struct bumbazeel_record) == 300, "struct bumbazeel_recor
 
 /* ---- host side */
 
-/* Checks a header of `bytes` bytes for the page asked for and the drive's DA4S. 0: *fields is what it says. 7: *fields is zeros but for
- * `bad_field` and `bad_byte`. */
-uint8_t bumbazeel_check(uint8_t page, uint8_t da4s, const uint8_t *header, size_t bytes, struct bumbazeel_fields *fields);
+/* Checks a header of `bytes` bytes and plans a collection from it: of the wanted area, `chunk` blocks a command, into a copy of `room` bytes. The
+ * answer is the first of these: 13 or 6, as bumbazeel_setup would refuse page, area, capabilities, `chunk` and `room`; 7: the header is bad, by
+ * DA4S of `caps`; 11: an 08h header shows no data available; 8: the wanted area is larger than the copy; else 0. A collection answers its first
+ * header in the same way, and sends `chunks` chunks if nothing disturbs it. *planned is always written. */
+uint8_t bumbazeel_plan(uint8_t page, uint8_t area, uint8_t caps, uint32_t chunk, size_t room, const uint8_t *header, size_t bytes,
+                       struct bumbazeel_planned *planned);
 
 /* The byte at which a field, one of BUMBAZEEL_FIELD_LENGTH to BUMBAZEEL_FIELD_EMPTY, starts in a header of this page: 0 for the length and the
  * identifier; 10, 12 and 16 for the last blocks of areas 2 to 4; 380 on 07h and 381 on any other page for the scope; 382 for TCDA; 12 for

@@ -32,7 +32,7 @@ use Rattle.shared_layouts.specs.Layouts.{capsOf}
 use Rattle.state_layout.specs.Layout.{stateAt}
 use Rattle.record_layout.specs.Layout.{recordAt}
 use Rattle.next_layout.specs.Layout.{send, ending, refusal, kindOf, nextBytes}
-use Rattle.host_boundary.specs.Boundary.{planOf}
+use Rattle.host_boundary.specs.Boundary.{setupPlan}
 use Rattle.c_calls.specs.Calls.{Controller, lastIn, areaIn, Program, kindIn, answerIn, newerIn, own, program}
 use Rattle.c_calls.specs.Record.{record-typed}
 use Rattle.c_calls.specs.Next.{kind-back, answer-back, newer-back, count-back}
@@ -45,7 +45,7 @@ use Rattle.c_calls.specs.Area.{last-is, area-is, long-is}
 module _ (page create area caps chunk attempts room : ℕ) (copy : List ℕ) (b : Controller) (first : Loan) (ts : List (Turn (controllerSource page))) where
   -- what setup is asked for
   abbrev p : Plan
-  p = planOf page create area caps chunk attempts room
+  p = setupPlan page create area caps chunk attempts room
 
   -- where the program stands after its turns
   abbrev last : Program
@@ -94,7 +94,7 @@ module _ (page create area caps chunk attempts room : ℕ) (copy : List ℕ) (b 
     -- struct bumbazeel_next is that number
     pub counted : valueAt 8 32 (last .state) ≡ last .made + one (eqb (kindIn (last .next)) send)
     pub says : kindIn (last .next) ≡ ending → valueAt 8 24 (last .next) ≡ last .made
-    -- it is within 1 + (k + 1)(C + 1), one more on 08h, C being the most chunks that the data of a judged header calls for, and also with C at the house limit
+    -- it is within 1 + (k + 1)(C + 1), one more on 08h, C being the greatest number of chunks planned from a judged header, and also with C at the house limit
     pub bounded : valueAt 8 32 (last .state) ≤ mostCommands p k (mostChunks p (last .headers))
     pub limited : valueAt 8 32 (last .state) ≤ mostCommands p k most4
     -- and so many commands end the loop

@@ -16,9 +16,11 @@ use Rattle.records.specs.Records.{identityOk, storeOk, controllerOk, agreesWith
 use Rattle.serving.specs.Serving.{windowOf, pageBytes}
 use Rattle.verdicts.specs.Verdicts.{candidateOk, fieldBad, lastAfter, commandAnswer}
 use Rattle.plans.specs.Plans.{setupAnswer, fitsRoom, chunkBlocks, withinBy, phaseAt, wordsBy}
-use Rattle.completions.specs.Completions.{lookBy, seenOf, generationOf, touched}
+use Rattle.completions.specs.Plan.{answerTo, plannedBy, planOf}
+use Rattle.completions.specs.Completions.{lookBy, plannedSeen, seenOf, generationOf}
 use Rattle.judgement.specs.Judgement.{judgeBy, testsOf, firstOrder, matchOrder, laterOrder}
 use Rattle.turns.specs.Turns.{turnOf}
+use Rattle.turns.specs.Touched.{touched}
 use Rattle.collection.specs.Collection.{setupOf, stepOf, decideOf, refusalOf, validState, completionFits, expectedOf, lookOf, moveOf, turnBy, actOf, awaitedOf, copyAfter}
 use Rattle.controller.specs.Controller.{Candidate, candidateOf, commandOf, answered, before, afterwards, sentOf, pageOf, hostCaptured}
 use Rattle.runs.specs.Run.{mostChunks}
@@ -29,7 +31,7 @@ use Rattle.shared_layouts.specs.Layouts.{capsOf}
 use Rattle.state_layout.specs.Layout.{phaseOf, stateBytes, stateAt, stateIntact}
 use Rattle.record_layout.specs.Layout.{recordBytes, recordAt, recordIntact}
 use Rattle.next_layout.specs.Layout.{ending, nextParts, nextBytes}
-use Rattle.host_boundary.specs.Boundary.{planOf, stepAt}
+use Rattle.host_boundary.specs.Boundary.{setupPlan, stepAt}
 use Rattle.controller_boundary.specs.Boundary.{identityOf, freshOk, freshBytes, commandAt}
 use Rattle.c_calls.specs.Calls.{Controller, after, capturesBy, dropsBy, judgesIn, Program, kindIn, own, happens, happen, turn, turns, begins, program}
 use Rattle.c_calls.specs.Record.{fresh-long, fresh-bytes}
@@ -57,10 +59,10 @@ moves =
 
 -- `bumbazeel_setup` for area 1 of 07h with create, a block a command, two attempts, a copy of two blocks
 abbrev last : Program
-last = program (planOf 7 1 1 3 1 2 1024) (replicate 1024 9) controller loan moves
+last = program (setupPlan 7 1 1 3 1 2 1024) (replicate 1024 9) controller loan moves
 
 pub asked : CAsked 7 1 1 3 1 2 1024 (replicate 1024 9) controller loan moves 1
-unfolding program turns turn happen happens own begins after capturesBy dropsBy judgesIn stepAt stateBytes stateAt stateIntact phaseOf nextParts nextBytes commandAt recordBytes recordAt recordIntact capsOf freshOk freshBytes setupOf setupAnswer holds stepOf decideOf refusalOf validState withinBy fitsRoom completionFits expectedOf lookOf lookBy seenOf checkOf faultOf lastOk sameLast generationOf moveOf judgeBy testsOf firstOrder matchOrder laterOrder turnBy turnOf actOf awaitedOf wordsBy builtOf taken phaseAt copyAfter touched putAt commandOf answered commandAnswer agreesWith storeOk controllerOk identityOk greatestOf fieldBad lastAfter candidateOk sizeOf blocksOf topOf trimmedTo trimOf before afterwards sentOf pageOf pageBytes windowOf headerOf hostFields controllerFields fieldsFor freshOf hostCaptured chunkBlocks mostChunks
+unfolding program turns turn happen happens own begins after capturesBy dropsBy judgesIn stepAt stateBytes stateAt stateIntact phaseOf nextParts nextBytes commandAt recordBytes recordAt recordIntact capsOf freshOk freshBytes setupOf setupAnswer holds stepOf decideOf refusalOf validState withinBy fitsRoom completionFits expectedOf lookOf lookBy plannedSeen planOf plannedBy answerTo seenOf checkOf faultOf lastOk sameLast generationOf moveOf judgeBy testsOf firstOrder matchOrder laterOrder turnBy turnOf actOf awaitedOf wordsBy builtOf taken phaseAt copyAfter touched putAt commandOf answered commandAnswer agreesWith storeOk controllerOk identityOk greatestOf fieldBad lastAfter candidateOk sizeOf blocksOf topOf trimmedTo trimOf before afterwards sentOf pageOf pageBytes windowOf headerOf hostFields controllerFields fieldsFor freshOf hostCaptured chunkBlocks mostChunks
 asked = record {
   sends = refl;
   same-caps = refl;
@@ -74,6 +76,6 @@ asked = record {
 
 -- BUMBAZEEL_ENDED with answer 0 after five commands, as many as the bound allows; the copy is the other host's block, and then zeros
 pub example : (kindIn (last .next) ≡ ending) × (getD (last .next) 1 0 ≡ 0) × (valueAt 8 24 (last .next) ≡ 5) × (last .copy ≡ replicate 512 6 ++ zeros 512)
-    × (mostCommands (planOf 7 1 1 3 1 2 1024) 1 (mostChunks (planOf 7 1 1 3 1 2 1024) (last .headers)) ≡ 5)
-unfolding program turns turn happen happens own begins after capturesBy dropsBy judgesIn stepAt stateBytes stateAt stateIntact phaseOf nextParts nextBytes commandAt recordBytes recordAt recordIntact capsOf freshOk freshBytes setupOf setupAnswer holds stepOf decideOf refusalOf validState withinBy fitsRoom completionFits expectedOf lookOf lookBy seenOf checkOf faultOf lastOk sameLast generationOf moveOf judgeBy testsOf firstOrder matchOrder laterOrder turnBy turnOf actOf awaitedOf wordsBy builtOf taken phaseAt copyAfter touched putAt commandOf answered commandAnswer agreesWith storeOk controllerOk identityOk greatestOf fieldBad lastAfter candidateOk sizeOf blocksOf topOf trimmedTo trimOf before afterwards sentOf pageOf pageBytes windowOf headerOf hostFields controllerFields fieldsFor freshOf hostCaptured chunkBlocks mostChunks
+    × (mostCommands (setupPlan 7 1 1 3 1 2 1024) 1 (mostChunks (setupPlan 7 1 1 3 1 2 1024) (last .headers)) ≡ 5)
+unfolding program turns turn happen happens own begins after capturesBy dropsBy judgesIn stepAt stateBytes stateAt stateIntact phaseOf nextParts nextBytes commandAt recordBytes recordAt recordIntact capsOf freshOk freshBytes setupOf setupAnswer holds stepOf decideOf refusalOf validState withinBy fitsRoom completionFits expectedOf lookOf lookBy plannedSeen planOf plannedBy answerTo seenOf checkOf faultOf lastOk sameLast generationOf moveOf judgeBy testsOf firstOrder matchOrder laterOrder turnBy turnOf actOf awaitedOf wordsBy builtOf taken phaseAt copyAfter touched putAt commandOf answered commandAnswer agreesWith storeOk controllerOk identityOk greatestOf fieldBad lastAfter candidateOk sizeOf blocksOf topOf trimmedTo trimOf before afterwards sentOf pageOf pageBytes windowOf headerOf hostFields controllerFields fieldsFor freshOf hostCaptured chunkBlocks mostChunks
 example = (refl, refl, refl, refl, refl)

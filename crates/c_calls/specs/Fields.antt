@@ -1,31 +1,39 @@
--- Document 02, Q-2, across the C boundary: `bad_field` of struct bumbazeel_next is the number of what is at fault in the header just read with ending 7, and 0 with any other
--- answer; struct bumbazeel_fields has the field at fault and its byte with answer 7, zeros beside them, and neither with 0; `bumbazeel_field_byte` tells the byte of either.
+-- Document 02, Q-2 and Q-4, across the C boundary: `bad_field` of struct bumbazeel_next is the number of what is at fault in the header just read with ending 7, and 0 with any other
+-- answer; struct bumbazeel_planned has the field at fault and its byte with answer 7, and zeros beside them, zeros alone with any other refusal, and with 0 no field at fault;
+-- `bumbazeel_field_byte` tells the byte of either; and a step at a first header answers as the plan from it does.
 -- Assumes nothing.
 use Prim.Native.Nat.{ℕ, _≤_}
 use mathlib.Core.Path.{_≡_, refl, sym, ap, subst, _∙_}
 use mathlib.Core.List.{List, _∷_, _++_}
-use mathlib.Core.Bool.{Bool, true, false}
+use mathlib.Core.Bool.{Bool, true, false, not}
 use native.Mathlib.Omega.{arith}
 use lib.ListN.{length, getD}
 use lib.Dec.{eqb}
+use borrow.Author.Tests.{eq-eqb, ne-eqb}
 use Rattle.choices.specs.Choice.{pick}
-use Rattle.choices.specs.Tests.{by-test, clash}
+use Rattle.choices.specs.Tests.{by-test, clash, same-or-not}
 use Rattle.copies.specs.Parts.{zeros}
 use Rattle.littleendian.specs.Numbers.{bytesOf, valueAt}
 use Rattle.answers.specs.Answers.{success, badHeader, badSetup}
 use Rattle.header.specs.declared.Fault.{Fault}
 use Rattle.header.specs.declared.Fault.the-variants.{None, Length, Identifier, Area2, Area3, Area4, Scope, Available, Empty}
-use Rattle.header.specs.declared.Checked.{Checked}
-use Rattle.header.specs.Header.{faultless, answerOf as checkAnswer, byteOf, noFields, checkOf}
+use Rattle.header.specs.Header.{faultless, byteOf, noFields, checkOf}
 use Rattle.plans.specs.declared.Plan.{Plan}
+use Rattle.plans.specs.declared.Phase.the-variants.{First}
+use Rattle.completions.specs.declared.Planned.{Planned}
+use Rattle.completions.specs.Plan.{refusedPlan, planOf, planBy}
+use Rattle.completions.specs.Planned.{planned-good, planned-refused, planned-bad-only, planned-good-only}
 use Rattle.collection.specs.declared.Next.{Next}
 use Rattle.collection.specs.declared.Next.the-variants.{Refuse}
 use Rattle.collection.specs.declared.Stepped.{Stepped}
-use Rattle.collection.specs.Collection.{setupOf, stepOf, copyAfter, answerOf}
+use Rattle.collection.specs.Collection.{refusalOf, setupOf, stepOf, copyAfter, answerOf, faultSaid}
 use Rattle.demands.specs.Fields.{not-length}
+use Rattle.demands.specs.Plans.{step-plans}
 use Rattle.demands.specs.Faults.{setup-carries, Bad, bad-ends, step-bad, step-carries}
-use Rattle.shared_layouts.specs.Layouts.{capsOf, faultNumber, faultBy, fieldsBytes}
-use Rattle.shared_layouts.specs.Faults.{no-field, fault-back, told-field, told-byte}
+use Rattle.shared_layouts.specs.Layouts.{capsOf, faultNumber, faultBy}
+use Rattle.shared_layouts.specs.Faults.{no-field, fault-back}
+use Rattle.planned_layout.specs.Layout.{plannedBytes}
+use Rattle.planned_layout.specs.Back.{told-field, told-byte}
 use Rattle.state_layout.specs.Layout.{stateBytes, stateAt, stateIntact}
 use Rattle.next_layout.specs.Layout.{ending, refusal, kindOf, nextParts, nextBytes}
 use Rattle.host_boundary.specs.Boundary.{StepAnswer, stepAnswer, stateAfter, stepAnswerOf, stepAt}
@@ -105,6 +113,14 @@ module _ (s : List ℕ) (ok : Bool) (d copy : List ℕ) where
       (λ e. subst (λ (next : List ℕ). Carries next) (sym (intact-follows e)) carried)
       (λ e. subst (λ (next : List ℕ). Carries next) (sym (damaged-follows e)) damaged)
 
+  -- At a first header that the step takes, `answer` and `bad_field` are those of the plan from it, for what the state's bytes say.
+  pub c-step-plans : stateIntact s ≡ true → ok ≡ true → refusalOf (stateAt s) true (length d) (length copy) ≡ success → stateAt s .phase ≡ First
+      → (answerIn followsIn ≡ planBy (stateAt s .plan) d .answer) × (fieldIn followsIn ≡ faultNumber (planBy (stateAt s .plan) d .fault))
+  c-step-plans e k r f =
+      let x = step-plans (stateAt s) d (length copy) r f in
+      let t = ap (λ (b : Bool). stepOf (stateAt s) b d (length copy) .next) k in
+      (ap answerIn (intact-follows e) ∙ answer-back n ∙ ap answerOf t ∙ x .0, ap fieldIn (intact-follows e) ∙ field-back n ∙ ap (λ (y : Next). faultNumber (faultSaid y)) t ∙ ap faultNumber (x .1))
+
   -- ---- with answer 7
 
   module _ (q : answerIn followsIn ≡ badHeader) where
@@ -149,32 +165,50 @@ module _ (s : List ℕ) (ok : Bool) (d copy : List ℕ) where
   unfolding nextBytes nextParts
   c-bad-ends e b = ap answerIn (intact-follows e ∙ ap (λ (x : Stepped). nextBytes (x .next)) (bad-ends (stateAt s) ok d (length copy) b))
 
--- ---- a check
+-- ---- a plan
 
-module _ (page : ℕ) (da4s : Bool) (h : List ℕ) where
-  abbrev x : Checked
-  x = checkOf page da4s h
+module _ (page area caps chunk room : ℕ) (h : List ℕ) where
+  -- what is planned, and struct bumbazeel_planned as the plan leaves it
+  abbrev x : Planned
+  x = planOf page area (capsOf caps) chunk room h
 
-  -- struct bumbazeel_fields as the check leaves it
-  abbrev pub fieldsIn : List ℕ
-  fieldsIn = fieldsBytes page x
+  abbrev pub plannedIn : List ℕ
+  plannedIn = plannedBytes page x
 
-  -- `bad_field` is 0 just with answer 0
-  pub c-check-carries : eqb (getD fieldsIn 5 0) 0 ≡ eqb (checkAnswer (x .fault)) success
-  c-check-carries = ap (λ (k : ℕ). eqb k 0) (told-field page x) ∙ no-field (x .fault) ∙ answered (faultless (x .fault))
-    where
-      answered : (t : Bool) → t ≡ eqb (pick t success badHeader) success
-      answered true = refl
-      answered false = refl
-
-  -- `bad_byte` is what `bumbazeel_field_byte` answers of it
-  pub c-check-byte : valueAt 2 6 fieldsIn ≡ byteOf page (faultBy (getD fieldsIn 5 0))
-  c-check-byte =
+  -- `bad_byte` is what `bumbazeel_field_byte` answers of `bad_field`
+  pub c-plan-byte : valueAt 2 6 plannedIn ≡ byteOf page (faultBy (getD plannedIn 5 0))
+  c-plan-byte =
       told-byte page x
       ∙ ap (byteOf page) (sym (fault-back (x .fault)))
       ∙ ap (λ (k : ℕ). byteOf page (faultBy k)) (sym (told-field page x))
 
-  -- and all else is zeros with answer 7
-  pub c-check-bad : faultless (x .fault) ≡ false → fieldsIn ≡ zeros 5 ++ (faultNumber (x .fault) ∷ bytesOf 2 (byteOf page (x .fault))) ++ zeros 148
-  unfolding checkOf noFields fieldsBytes
-  c-check-bad e = rw e
+  -- the field at fault, of the check for the capabilities' DA4S
+  abbrev pub foundFault : Fault
+  foundFault = checkOf page (capsOf caps .da4s) h .fault
+
+  -- with 7 all else is zeros
+  pub c-plan-bad : x .answer ≡ badHeader → plannedIn ≡ zeros 5 ++ (faultNumber foundFault ∷ bytesOf 2 (byteOf page foundFault)) ++ zeros 152
+  unfolding plannedBytes noFields
+  c-plan-bad e = ap (plannedBytes page) (planned-refused page area (capsOf caps) chunk room h badHeader e (λ q. omega arith))
+
+  -- with any other refusal everything is
+  pub c-plan-refused : (n : ℕ) → x .answer ≡ n → (n ≡ success → ⊥) → (n ≡ badHeader → ⊥) → plannedIn ≡ zeros 160
+  unfolding plannedBytes noFields
+  c-plan-refused n e z q =
+      let t : x ≡ refusedPlan n None = planned-refused page area (capsOf caps) chunk room h n e z ∙ rw (ne-eqb n badHeader q) in
+      ap (plannedBytes page) t
+
+  -- so `bad_field` is 0 but with 7
+  pub c-plan-carries : eqb (getD plannedIn 5 0) 0 ≡ not (eqb (x .answer) badHeader)
+  c-plan-carries =
+      ap (λ (k : ℕ). eqb k 0) (told-field page x)
+      ∙ no-field (x .fault)
+      ∙ same-or-not (x .answer) badHeader
+      (λ e. ap (λ (y : Planned). faultless (y .fault)) (planned-refused page area (capsOf caps) chunk room h badHeader e (λ q. omega arith))
+      ∙ planned-bad-only page area (capsOf caps) chunk room h e
+      ∙ rw (eq-eqb _ badHeader e))
+      (λ n. same-or-not (x .answer) success
+      (λ e. ap (λ (y : Planned). faultless (y .fault)) (planned-good page area (capsOf caps) chunk room h e)
+      ∙ planned-good-only page area (capsOf caps) chunk room h e
+      ∙ rw (ne-eqb _ badHeader n))
+      (λ z. ap (λ (y : Planned). faultless (y .fault)) (planned-refused page area (capsOf caps) chunk room h (x .answer) refl z) ∙ rw (ne-eqb _ badHeader n)))

@@ -27,7 +27,9 @@ use Rattle.plans.specs.declared.Phase.the-variants.{First, Chunk, Close, Ack, E
 use Rattle.plans.specs.Plans.{setupAnswer, areaLast, phaseAt}
 use Rattle.plans.specs.Limits.{plan-limits}
 use Rattle.completions.specs.declared.Seen.{Seen}
-use Rattle.completions.specs.Completions.{seenOf, lookBy}
+use Rattle.completions.specs.declared.Planned.{Planned}
+use Rattle.completions.specs.Plan.{leastPlan, answerTo, plannedBy, planOf, planBy}
+use Rattle.completions.specs.Completions.{plannedSeen, seenOf, lookBy}
 use Rattle.judgement.specs.declared.Move.{Move}
 use Rattle.judgement.specs.declared.Move.the-variants.{End, Open, More, Skip, Acknowledge}
 use Rattle.collection.specs.declared.Collection.{Collection}
@@ -79,9 +81,16 @@ checked-four page da4s d =
     record { four = refl; each = rule-ranged da4s (lastAt d) (last-rule da4s (lastAt d) (each _ k 1)) refl })
     (λ e. zeros-four)
 
+planned-four : (p : Plan) (d : List ℕ) → Four (planBy p d .fields .last)
+unfolding planOf plannedBy noFields
+planned-four p d =
+    pick-cases (λ (x : Planned). Four (x .fields .last))
+    (eqb (answerTo (leastPlan (p .page) (p .area) (p .caps) (p .chunk) (p .room)) (checkOf (p .page) (p .caps .da4s) d)) success)
+    (λ e. checked-four (p .page) (p .caps .da4s) d) (λ e. zeros-four)
+
 look-four : (f : Phase) (p : Plan) (d : List ℕ) → Four (lookBy f p d .last)
-unfolding lookBy seenOf
-look-four First p d = checked-four _ _ d
+unfolding lookBy plannedSeen seenOf
+look-four First p d = planned-four p d
 look-four (Chunk at) p d = zeros-four
 look-four (Close after) p d = checked-four _ _ d
 look-four Ack p d = checked-four _ _ d

@@ -18,9 +18,9 @@ use Rattle.plans.specs.declared.Phase.the-variants.{First, Ended}
 use Rattle.plans.specs.Phases.{endedBy}
 use Rattle.plans.specs.Plans.{mostAttempts, setupAnswer, wordsBy, expectedBy}
 use Rattle.completions.specs.declared.Seen.{Seen}
-use Rattle.completions.specs.declared.Touch.{Touch}
-use Rattle.completions.specs.declared.Touch.the-variants.{Keep}
-use Rattle.completions.specs.Completions.{lookBy, touched}
+use Rattle.turns.specs.declared.Touch.{Touch}
+use Rattle.turns.specs.declared.Touch.the-variants.{Keep}
+use Rattle.completions.specs.Completions.{lookBy}
 use Rattle.judgement.specs.declared.Ending.{Ending}
 use Rattle.judgement.specs.declared.Move.{Move}
 use Rattle.judgement.specs.declared.Move.the-variants.{End, Open, More, Skip, Acknowledge}
@@ -29,6 +29,7 @@ use Rattle.judgement.specs.Judgement.{testsOf, judgeBy}
 use Rattle.turns.specs.declared.Turn.{Turn}
 use Rattle.turns.specs.Refusals.{mostCount, validBy, fitsBy, firstRefusal}
 use Rattle.turns.specs.Turns.{turnOf}
+use Rattle.turns.specs.Touched.{touched}
 use Rattle.collection.specs.declared.Collection.{Collection}
 use Rattle.collection.specs.declared.Next.{Next}
 use Rattle.collection.specs.declared.Next.the-variants.{Send, End as Ends, Refuse}

@@ -16,8 +16,7 @@ use Rattle.plans.specs.declared.Phase.the-variants.{Chunk}
 use Rattle.plans.specs.Plans.{areaLast, areaBytes, chunkBlocks}
 use Rattle.plans.specs.Limits.{chunk-inside, chunk-ends, fits-room}
 use Rattle.completions.specs.declared.Seen.{Seen}
-use Rattle.completions.specs.Completions.{touched}
-use Rattle.completions.specs.Touched.{touched-length, zeros-after, zeros-all}
+use Rattle.turns.specs.Touched.{touched, touched-length, zeros-after, zeros-all}
 use Rattle.judgement.specs.declared.Ending.{Ending}
 use Rattle.judgement.specs.declared.Ending.the-variants.{Success, NoRoom}
 use Rattle.judgement.specs.declared.Move.{Move}

@@ -9,8 +9,8 @@ use lib.ListN.{length}
 use lib.Dec.{leb, eqb}
 use borrow.Author.Tests.{leb-true, leb-false, eqb-true, eqb-false, ne-eqb, not-true, not-false}
 use Rattle.choices.specs.Choice.{pick, pick-cases}
-use Rattle.choices.specs.Tests.{each, and-left, and-right}
-use Rattle.answers.specs.Answers.{success, badHeader}
+use Rattle.choices.specs.Tests.{each, and-left, and-right, clash}
+use Rattle.answers.specs.Answers.{success, badHeader, noRoom, nothing}
 use Rattle.pages.specs.Pages.{controllerPage}
 use Rattle.header.specs.declared.Fault.{Fault}
 use Rattle.header.specs.declared.Fault.the-variants.{None}
@@ -21,7 +21,8 @@ use Rattle.plans.specs.Phases.{judgedBy, closingBy, endedBy}
 use Rattle.plans.specs.Plans.{setupAnswer, areaLast, fitsRoom, insideBy, withinBy}
 use Rattle.plans.specs.Limits.{plan-limits}
 use Rattle.completions.specs.declared.Seen.{Seen}
-use Rattle.completions.specs.Completions.{showsNone, touched}
+use Rattle.completions.specs.Completions.{showsNone}
+use Rattle.completions.specs.Looked.{TakenByPlan, Opens}
 use Rattle.judgement.specs.declared.Ending.{Ending}
 use Rattle.judgement.specs.declared.Ending.the-variants.{Success, BadHeader, NoRoom, UsedUp, Withdrawn, Nothing, BrokeItsWord}
 use Rattle.judgement.specs.declared.Move.{Move}
@@ -32,6 +33,7 @@ use Rattle.turns.specs.Turns.{good}
 use Rattle.collection.specs.declared.Collection.{Collection}
 use Rattle.collection.specs.declared.Decided.{Decided}
 use Rattle.turns.specs.Refusals.{mostCount, firstRefusal, refusalBy}
+use Rattle.turns.specs.Touched.{touched}
 use Rattle.collection.specs.Collection.{validState, completionFits, expectedOf, lookOf, refusalOf, moveOf, madeOf, refusedOf, decideOf, copyAfter, Bounded}
 
 -- ---- a valid state
@@ -111,24 +113,26 @@ settled-is s ok d copy e f = rw (f, e)
 
 -- ---- the move that a completion calls for
 
--- what an answer of this number says of a header's fault: with 7 what is at fault in the header, which is one that is judged and came; with any other nothing
+-- what an answer of this number says of a header's fault: with 7 what is at fault in the header, which is one that is judged and came, by its plan if it is a first
+-- one; with any other nothing
 pub record Says (s : Collection) (ok : Bool) (h : Seen) (number : ℕ) (fault : Fault) : Type 0 where
   pub told : fault ≡ pick (eqb number badHeader) (h .fault) None
   pub judged : number ≡ badHeader → judgedBy (s .phase) ≡ true
   pub came : number ≡ badHeader → ok ≡ true
-  pub bad : number ≡ badHeader → faultless (h .fault) ≡ false
+  pub first : number ≡ badHeader → s .phase ≡ First → h .answer ≡ badHeader
+  pub later : number ≡ badHeader → closingBy (s .phase) ≡ true → faultless (h .fault) ≡ false
 
 pub says-nothing : {s : Collection} {ok : Bool} {h : Seen} {number : ℕ} {fault : Fault} → fault ≡ None → eqb number badHeader ≡ false → Says s ok h number fault
 says-nothing {number = number} x t =
     let n = eqb-false number badHeader t in
-    record { told = x ∙ rw t; judged = λ q. absurd (n q); came = λ q. absurd (n q); bad = λ q. absurd (n q) }
+    record { told = x ∙ rw t; judged = λ q. absurd (n q); came = λ q. absurd (n q); first = λ q. absurd (n q); later = λ q. absurd (n q) }
 
 -- all moves that a completion can call for in a state, each with what holds then
 pub record Moves (P : Move → Type 0) (s : Collection) (ok : Bool) (h : Seen) : Type 0 where
   pub fail : (e : Ending) → good e ≡ false → Says s ok h (numberOf e) (faultIn e) → P (End e false)
   pub large : closingBy (s .phase) ≡ true → s .attempt .number < s .plan .attempts → P (End NoRoom true)
-  pub first : s .phase ≡ First → fitsRoom (s .plan) (h .last) ≡ true → P (Open false)
-  pub again : closingBy (s .phase) ≡ true → s .attempt .number < s .plan .attempts → fitsRoom (s .plan) (h .last) ≡ true → P (Open true)
+  pub first : s .phase ≡ First → TakenByPlan h → P (Open false)
+  pub again : closingBy (s .phase) ≡ true → s .attempt .number < s .plan .attempts → Opens (s .plan) h → P (Open true)
   pub more : (at : ℕ) → s .phase ≡ Chunk at → ok ≡ true → P (More at)
   pub skip : (at : ℕ) → s .phase ≡ Chunk at → ok ≡ false → P Skip
   pub acknowledge : s .phase ≡ Close false → matches (s .attempt) h ≡ true → s .plan .page ≡ controllerPage → P Acknowledge
@@ -137,9 +141,10 @@ pub record Moves (P : Move → Type 0) (s : Collection) (ok : Bool) (h : Seen) :
 
 -- what holds of all of them holds of the one that it calls for
 module _ (P : Move → Type 0) (s : Collection) (ok : Bool) (h : Seen) (m : Moves P s ok h) where
-  by-match : (after : Bool) → s .phase ≡ Close after → P (matchOrder (testsOf (s .plan) (s .attempt) ok h) after)
+  by-match : (after : Bool) → s .phase ≡ Close after → not (faultless (h .fault)) ≡ false → showsNone (s .plan) h ≡ false
+      → P (matchOrder (testsOf (s .plan) (s .attempt) ok h) after)
   unfolding matchOrder testsOf
-  by-match after e =
+  by-match after e g n =
       let f : closingBy (s .phase) ≡ true = rw e in
       pick-cases P (matches (s .attempt) h && after) (λ b. m .fail BrokeItsWord refl (says-nothing refl refl))
       (λ b. pick-cases P (matches (s .attempt) h && eqb (s .plan .page) controllerPage)
@@ -150,24 +155,37 @@ module _ (P : Move → Type 0) (s : Collection) (ok : Bool) (h : Seen) (m : Move
       (λ q. let a : after ≡ false = rw q at b in m .stand (e ∙ ap Close a) q (rw q at w))
       (λ q. pick-cases P (leb (s .plan .attempts) (s .attempt .number)) (λ u. m .fail UsedUp refl (says-nothing refl refl))
       (λ u. let l = leb-false (s .plan .attempts) (s .attempt .number) u in
-      pick-cases P (not (fitsRoom (s .plan) (h .last))) (λ r. m .large f l) (λ r. m .again f l (not-false _ r))))))
+      pick-cases P (not (fitsRoom (s .plan) (h .last))) (λ r. m .large f l) (λ r. m .again f l (record { good = not-false _ g; some = n; fits = not-false _ r }))))))
 
-  -- a bad header
-  by-fault : judgedBy (s .phase) ≡ true → not ok ≡ false → not (faultless (h .fault)) ≡ true → P (End (BadHeader (h .fault)) false)
-  by-fault j k g = m .fail (BadHeader (h .fault)) refl (record { told = refl; judged = λ q. j; came = λ q. not-false ok k; bad = λ q. not-true _ g })
+  -- a bad header, a first one by its plan and a later one by its fault
+  by-plan-of : s .phase ≡ First → not ok ≡ false → h .answer ≡ badHeader → P (End (BadHeader (h .fault)) false)
+  by-plan-of e k g =
+      m .fail (BadHeader (h .fault)) refl
+      (record { told = refl; judged = λ q. ap judgedBy e; came = λ q. not-false ok k; first = λ q f. g; later = λ q c. clash c (ap closingBy e) })
+
+  by-fault : (after : Bool) → s .phase ≡ Close after → not ok ≡ false → not (faultless (h .fault)) ≡ true → P (End (BadHeader (h .fault)) false)
+  by-fault after e k g =
+      m .fail (BadHeader (h .fault)) refl
+      (record {
+        told = refl;
+        judged = λ q. ap judgedBy e;
+        came = λ q. not-false ok k;
+        first = λ q f. clash {t = true} refl (ap closingBy (sym e ∙ f));
+        later = λ q c. not-true _ g;
+      })
 
   by-phase : (f : Phase) → s .phase ≡ f → P (judgeBy f (testsOf (s .plan) (s .attempt) ok h))
   unfolding judgeBy firstOrder laterOrder testsOf
   by-phase First e =
       pick-cases P (not ok) (λ k. m .fail BrokeItsWord refl (says-nothing refl refl))
-      (λ k. pick-cases P (not (faultless (h .fault))) (λ g. by-fault (ap judgedBy e) k g)
-      (λ g. pick-cases P (showsNone (s .plan) h) (λ n. m .fail Nothing refl (says-nothing refl refl))
-      (λ n. pick-cases P (not (fitsRoom (s .plan) (h .last))) (λ r. m .fail NoRoom refl (says-nothing refl refl)) (λ r. m .first e (not-false _ r)))))
+      (λ k. pick-cases P (eqb (h .answer) badHeader) (λ g. by-plan-of e k (eqb-true _ _ g))
+      (λ g. pick-cases P (eqb (h .answer) nothing) (λ n. m .fail Nothing refl (says-nothing refl refl))
+      (λ n. pick-cases P (eqb (h .answer) noRoom) (λ r. m .fail NoRoom refl (says-nothing refl refl)) (λ r. m .first e (record { good = g; some = n; fits = r })))))
   by-phase (Chunk at) e = pick-cases P (not ok) (λ k. m .skip at e (not-true ok k)) (λ k. m .more at e (not-false _ k))
   by-phase (Close after) e =
       pick-cases P (not ok) (λ k. m .fail BrokeItsWord refl (says-nothing refl refl))
-      (λ k. pick-cases P (not (faultless (h .fault))) (λ g. by-fault (ap judgedBy e) k g)
-      (λ g. pick-cases P (showsNone (s .plan) h) (λ n. m .fail Withdrawn refl (says-nothing refl refl)) (λ n. by-match after e)))
+      (λ k. pick-cases P (not (faultless (h .fault))) (λ g. by-fault after e k g)
+      (λ g. pick-cases P (showsNone (s .plan) h) (λ n. m .fail Withdrawn refl (says-nothing refl refl)) (λ n. by-match after e g n)))
   by-phase Ack e = pick-cases P (not ok) (λ k. m .fail BrokeItsWord refl (says-nothing refl refl)) (λ k. m .done e (not-false _ k))
   by-phase Ended e = m .fail BrokeItsWord refl (says-nothing refl refl)
 

@@ -20,19 +20,21 @@ use Rattle.plans.specs.Phases.{closingBy, refusedBy, endedBy, closing-is}
 use Rattle.plans.specs.Plans.{setupAnswer, areaBytes, fitsRoom}
 use Rattle.plans.specs.Awaited.{Awaits, awaited-built}
 use Rattle.completions.specs.declared.Seen.{Seen}
-use Rattle.completions.specs.declared.Touch.{Touch}
-use Rattle.completions.specs.declared.Touch.the-variants.{Keep, Place}
-use Rattle.completions.specs.Completions.{showsNone, touched}
+use Rattle.turns.specs.declared.Touch.{Touch}
+use Rattle.turns.specs.declared.Touch.the-variants.{Keep, Place}
+use Rattle.completions.specs.Completions.{plannedSeen, seenOf, lookBy, showsNone}
+use Rattle.completions.specs.Looked.{look-closing, planned-bad, planned-none, planned-large, planned-opens}
 use Rattle.judgement.specs.declared.Ending.the-variants.{Success, BadHeader, NoRoom, UsedUp, Withdrawn, Nothing, BrokeItsWord}
 use Rattle.judgement.specs.declared.Move.{Move}
 use Rattle.judgement.specs.declared.Move.the-variants.{End, Open, More, Skip, Acknowledge}
 use Rattle.judgement.specs.Judgement.{matches, newerThan, testsOf, firstOrder, matchOrder, laterOrder, judgeBy}
 use Rattle.turns.specs.Turns.{openingOf, followingOf, leftBy, turnOf}
+use Rattle.turns.specs.Touched.{touched}
 use Rattle.collection.specs.declared.Collection.{Collection}
 use Rattle.collection.specs.declared.Stepped.{Stepped}
 use Rattle.collection.specs.declared.Decided.{Decided}
 use Rattle.collection.specs.Collection.{validState, lookOf, refusalOf, moveOf, turnBy, numberIn, sends, ends, refuses, actOf, madeOf, stepOf, copyAfter, beginning, setupOf}
-use Rattle.collection.specs.Laws.{state-valid, decide-yes, decide-no}
+use Rattle.collection.specs.Laws.{state-valid, not-refused, decide-yes, decide-no}
 
 -- the state with another command sent in its attempt
 abbrev pub inPhase : Collection → Phase → Collection
@@ -149,36 +151,50 @@ module _ (s : Collection) (ok : Bool) (d : List ℕ) (n : ℕ) (r : refusalOf s 
       ∙ ap (λ (x : Move). makes s (lookOf s d) x)
       (ap (λ (g : Phase). judgeBy g (testsOf (s .plan) (s .attempt) ok (lookOf s d))) p ∙ e)
 
--- ---- the first header: 12, 7, 11, 8, or it opens the attempt
+-- ---- the first header: 12, and then as its plan answers, 7, 11, 8, or it opens the attempt. What the check finds in it decides that.
 
 module _ (s : Collection) (ok : Bool) (d : List ℕ) (n : ℕ) (r : refusalOf s ok (length d) n ≡ success) (f : s .phase ≡ First) where
-  first : (m : Move) → firstOrder (testsOf (s .plan) (s .attempt) ok (lookOf s d)) ≡ m → stepOf s ok d n ≡ makes s (lookOf s d) m
+  -- setup takes the plan of a state that is not refused
+  plan-is : setupAnswer (s .plan) ≡ success
+  plan-is = state-valid s (not-refused s ok (length d) n r .state) .plan
+
+  pub looks-planned : lookOf s d ≡ plannedSeen (s .plan) d
+  unfolding lookOf lookBy
+  looks-planned = ap (λ (g : Phase). lookBy g (s .plan) d) f
+
+  first : (m : Move) → firstOrder (testsOf (s .plan) (s .attempt) ok (plannedSeen (s .plan) d)) ≡ m → stepOf s ok d n ≡ makes s (plannedSeen (s .plan) d) m
   unfolding judgeBy
-  first m e = moved s ok d n r First m f e
+  first m e =
+      moved s ok d n r First m f (ap (λ (h : Seen). firstOrder (testsOf (s .plan) (s .attempt) ok h)) looks-planned ∙ e)
+      ∙ ap (λ (h : Seen). makes s h m) looks-planned
 
   pub first-refused : ok ≡ false → stepOf s ok d n ≡ ends (endedIn s false) BrokeItsWord
   unfolding makes firstOrder testsOf
   first-refused k = first (End BrokeItsWord false) (rw k)
 
   module _ (k : ok ≡ true) where
-    pub first-bad : faultless (lookOf s d .fault) ≡ false → stepOf s ok d n ≡ ends (endedIn s false) (BadHeader (lookOf s d .fault))
+    pub first-bad : faultless (seenOf (s .plan) d .fault) ≡ false → stepOf s ok d n ≡ ends (endedIn s false) (BadHeader (seenOf (s .plan) d .fault))
     unfolding makes firstOrder testsOf
-    first-bad g = first (End (BadHeader (lookOf s d .fault)) false) (rw (k, g))
+    first-bad g =
+        let b = planned-bad (s .plan) d plan-is g in
+        first (End (BadHeader (seenOf (s .plan) d .fault)) false) (rw (k, b .0, b .1))
 
-    module _ (g : faultless (lookOf s d .fault) ≡ true) where
-      pub first-none : showsNone (s .plan) (lookOf s d) ≡ true → stepOf s ok d n ≡ ends (endedIn s false) Nothing
+    module _ (g : faultless (seenOf (s .plan) d .fault) ≡ true) where
+      pub first-none : showsNone (s .plan) (seenOf (s .plan) d) ≡ true → stepOf s ok d n ≡ ends (endedIn s false) Nothing
       unfolding makes firstOrder testsOf
-      first-none w = first (End Nothing false) (rw (k, g, w))
+      first-none w = first (End Nothing false) (rw (k, planned-none (s .plan) d plan-is g w))
 
-      pub first-large : showsNone (s .plan) (lookOf s d) ≡ false → fitsRoom (s .plan) (lookOf s d .last) ≡ false
+      pub first-large : showsNone (s .plan) (seenOf (s .plan) d) ≡ false → fitsRoom (s .plan) (seenOf (s .plan) d .last) ≡ false
           → stepOf s ok d n ≡ ends (endedIn s false) NoRoom
       unfolding makes firstOrder testsOf
-      first-large w l = first (End NoRoom false) (rw (k, g, w, l))
+      first-large w l = first (End NoRoom false) (rw (k, planned-large (s .plan) d plan-is g w l))
 
-      pub first-opens : showsNone (s .plan) (lookOf s d) ≡ false → fitsRoom (s .plan) (lookOf s d .last) ≡ true
-          → stepOf s ok d n ≡ sends (openedBy s false (lookOf s d))
-      unfolding makes firstOrder testsOf
-      first-opens w l = first (Open false) (rw (k, g, w, l))
+      pub first-opens : showsNone (s .plan) (seenOf (s .plan) d) ≡ false → fitsRoom (s .plan) (seenOf (s .plan) d .last) ≡ true
+          → stepOf s ok d n ≡ sends (openedBy s false (seenOf (s .plan) d))
+      unfolding makes firstOrder testsOf seenOf
+      first-opens w l =
+          let e = planned-opens (s .plan) d plan-is g w l in
+          first (Open false) (rw (k, e)) ∙ ap (λ (h : Seen). sends (openedBy s false h)) e
 
 -- ---- a chunk: a good one is followed by the next or by the closing header, a refused one by the header
 
@@ -192,54 +208,61 @@ module _ (s : Collection) (at : ℕ) (d : List ℕ) (n : ℕ) (f : s .phase ≡ 
   chunk-refused r = moved s false d n r (Chunk at) Skip f refl
 
 -- ---- a later header: 12, 7, 10; on a match 12 after a refused chunk, success on 07h, the acknowledgement on 08h; on a mismatch 9, 8, or it
--- opens the next attempt
+-- opens the next attempt. What the check finds in it decides that.
 
 module _ (s : Collection) (ok : Bool) (d : List ℕ) (n : ℕ) (r : refusalOf s ok (length d) n ≡ success) (f : closingBy (s .phase) ≡ true) where
-  later : (m : Move) → laterOrder (testsOf (s .plan) (s .attempt) ok (lookOf s d)) (refusedBy (s .phase)) ≡ m
-      → stepOf s ok d n ≡ makes s (lookOf s d) m
+  looks-checked : lookOf s d ≡ seenOf (s .plan) d
+  unfolding lookOf
+  looks-checked = look-closing (s .phase) (s .plan) d f
+
+  later : (m : Move) → laterOrder (testsOf (s .plan) (s .attempt) ok (seenOf (s .plan) d)) (refusedBy (s .phase)) ≡ m
+      → stepOf s ok d n ≡ makes s (seenOf (s .plan) d) m
   unfolding judgeBy
-  later m e = moved s ok d n r (Close (refusedBy (s .phase))) m (closing-is (s .phase) f .is) e
+  later m e =
+      moved s ok d n r (Close (refusedBy (s .phase))) m (closing-is (s .phase) f .is)
+      (ap (λ (h : Seen). laterOrder (testsOf (s .plan) (s .attempt) ok h) (refusedBy (s .phase))) looks-checked ∙ e)
+      ∙ ap (λ (h : Seen). makes s h m) looks-checked
 
   pub later-refused : ok ≡ false → stepOf s ok d n ≡ ends (endedIn s false) BrokeItsWord
   unfolding makes laterOrder testsOf
   later-refused k = later (End BrokeItsWord false) (rw k)
 
   module _ (k : ok ≡ true) where
-    pub later-bad : faultless (lookOf s d .fault) ≡ false → stepOf s ok d n ≡ ends (endedIn s false) (BadHeader (lookOf s d .fault))
+    pub later-bad : faultless (seenOf (s .plan) d .fault) ≡ false → stepOf s ok d n ≡ ends (endedIn s false) (BadHeader (seenOf (s .plan) d .fault))
     unfolding makes laterOrder testsOf
-    later-bad g = later (End (BadHeader (lookOf s d .fault)) false) (rw (k, g))
+    later-bad g = later (End (BadHeader (seenOf (s .plan) d .fault)) false) (rw (k, g))
 
-    module _ (g : faultless (lookOf s d .fault) ≡ true) where
-      pub later-none : showsNone (s .plan) (lookOf s d) ≡ true → stepOf s ok d n ≡ ends (endedIn s false) Withdrawn
+    module _ (g : faultless (seenOf (s .plan) d .fault) ≡ true) where
+      pub later-none : showsNone (s .plan) (seenOf (s .plan) d) ≡ true → stepOf s ok d n ≡ ends (endedIn s false) Withdrawn
       unfolding makes laterOrder testsOf
       later-none w = later (End Withdrawn false) (rw (k, g, w))
 
-      module _ (w : showsNone (s .plan) (lookOf s d) ≡ false) where
-        pub later-broke : matches (s .attempt) (lookOf s d) ≡ true → refusedBy (s .phase) ≡ true → stepOf s ok d n ≡ ends (endedIn s false) BrokeItsWord
+      module _ (w : showsNone (s .plan) (seenOf (s .plan) d) ≡ false) where
+        pub later-broke : matches (s .attempt) (seenOf (s .plan) d) ≡ true → refusedBy (s .phase) ≡ true → stepOf s ok d n ≡ ends (endedIn s false) BrokeItsWord
         unfolding makes laterOrder matchOrder testsOf
         later-broke q z = later (End BrokeItsWord false) (rw (q, k, g, w, z))
 
-        pub later-done : matches (s .attempt) (lookOf s d) ≡ true → refusedBy (s .phase) ≡ false → eqb (s .plan .page) controllerPage ≡ false
+        pub later-done : matches (s .attempt) (seenOf (s .plan) d) ≡ true → refusedBy (s .phase) ≡ false → eqb (s .plan .page) controllerPage ≡ false
             → stepOf s ok d n ≡ ends (endedIn s false) (Success false)
         unfolding makes laterOrder matchOrder testsOf
         later-done q z p = later (End (Success false) false) (rw (q, k, g, w, z, p))
 
-        pub later-acknowledges : matches (s .attempt) (lookOf s d) ≡ true → refusedBy (s .phase) ≡ false → eqb (s .plan .page) controllerPage ≡ true
+        pub later-acknowledges : matches (s .attempt) (seenOf (s .plan) d) ≡ true → refusedBy (s .phase) ≡ false → eqb (s .plan .page) controllerPage ≡ true
             → stepOf s ok d n ≡ sends (inPhase s Ack)
         unfolding makes laterOrder matchOrder testsOf
         later-acknowledges q z p = later Acknowledge (rw (q, k, g, w, z, p))
 
-        pub later-used-up : matches (s .attempt) (lookOf s d) ≡ false → s .plan .attempts ≤ s .attempt .number → stepOf s ok d n ≡ ends (endedIn s false) UsedUp
+        pub later-used-up : matches (s .attempt) (seenOf (s .plan) d) ≡ false → s .plan .attempts ≤ s .attempt .number → stepOf s ok d n ≡ ends (endedIn s false) UsedUp
         unfolding makes laterOrder matchOrder testsOf
         later-used-up q u = later (End UsedUp false) (rw (q, k, g, w, le-leb (s .plan .attempts) (s .attempt .number) u))
 
-        pub later-large : matches (s .attempt) (lookOf s d) ≡ false → s .attempt .number < s .plan .attempts → fitsRoom (s .plan) (lookOf s d .last) ≡ false
+        pub later-large : matches (s .attempt) (seenOf (s .plan) d) ≡ false → s .attempt .number < s .plan .attempts → fitsRoom (s .plan) (seenOf (s .plan) d .last) ≡ false
             → stepOf s ok d n ≡ ends (endedIn s true) NoRoom
         unfolding makes laterOrder matchOrder testsOf
         later-large q u l = later (End NoRoom true) (rw (q, k, g, w, lt-leb (s .plan .attempts) (s .attempt .number) u, l))
 
-        pub later-opens : matches (s .attempt) (lookOf s d) ≡ false → s .attempt .number < s .plan .attempts → fitsRoom (s .plan) (lookOf s d .last) ≡ true
-            → stepOf s ok d n ≡ sends (openedBy s true (lookOf s d))
+        pub later-opens : matches (s .attempt) (seenOf (s .plan) d) ≡ false → s .attempt .number < s .plan .attempts → fitsRoom (s .plan) (seenOf (s .plan) d .last) ≡ true
+            → stepOf s ok d n ≡ sends (openedBy s true (seenOf (s .plan) d))
         unfolding makes laterOrder matchOrder testsOf
         later-opens q u l = later (Open true) (rw (q, k, g, w, lt-leb (s .plan .attempts) (s .attempt .number) u, l))
 

@@ -5,13 +5,13 @@
 // any copy, the answer and every byte of the copy afterwards (specs/Collection.antt). What decides (`decide`) never looks at a chunk's bytes
 // nor at the copy; `step` looks at the data, lets it decide, and moves the bytes.
 use completions::Seen;
-use completions::Touch;
 use judgement::Attempt;
 use judgement::Ending;
 use judgement::Move;
 use plans::Phase;
 use plans::Plan;
 use turns::Offered;
+use turns::Touch;
 use turns::Turn;
 use words::Words;
 ghost use mathlib.Core.Path.{_≡_};
@@ -183,7 +183,7 @@ impl Collection {
         let seen = completions::look(phase, plan, data);
         let decided = self.decide(ok, data.len(), copy.len(), seen);
         let touch = decided.touch;
-        completions::settle(touch, data, copy);
+        turns::settle(touch, data, copy);
         decided.stepped
     }
 

@@ -1,3 +1,4 @@
+pub mod Plan
+pub mod Planned
 pub mod Completions
-pub mod Touched
 pub mod Looked

@@ -72,7 +72,7 @@ module _ (c : Collector) (p : Plan) (copy : List ℕ) (w : World) (first : Loan)
     -- the reported count is the number of commands in the run's record
     pub counted : final .collection .count ≡ length (final .sent)
     pub says : (e : Finish) → final .said ≡ Ends e → e .count ≡ length (final .sent)
-    -- it is within 1 + (k + 1)(C + 1), one more on 08h, C being the most chunks that the data of a judged header calls for, and also with C at the
+    -- it is within 1 + (k + 1)(C + 1), one more on 08h, C being the greatest number of chunks planned from a judged header, and also with C at the
     -- house limit
     pub bounded : final .collection .count ≤ mostCommands p k (mostChunks p (final .headers))
     pub limited : final .collection .count ≤ mostCommands p k most4

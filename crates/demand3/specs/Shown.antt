@@ -37,6 +37,7 @@ generationFor page w = perPage page (w .own .host .generation) (w .own .controll
 -- what the header of a page shows
 unfoldable pub showsFor : ℕ → World → Seen
 showsFor page w = record {
+  answer = success;
   fault = None;
   tcda = fieldsFor page (w .own) .tcda;
   generation = generationFor page w;

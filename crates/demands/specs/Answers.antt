@@ -1,4 +1,4 @@
--- Document 01's table of answers, its column 'Given by': the answers that each function gives, for all arguments.
+-- Document 01's table of answers, its column 'Given by', and document 02's refusals of a plan: the answers that each function gives, for all arguments.
 -- Assumes nothing.
 use Prim.Native.Nat.{ℕ}
 use mathlib.Core.Path.{_≡_, refl, sym, _∙_}
@@ -12,10 +12,10 @@ use Rattle.choices.specs.Tests.{holds, by-test, same-or-not, and-left}
 use Rattle.answers.specs.Answers.{success, invalidField, invalidLogPage, shortBuffer, disagree, brokenCandidate, noArea4, badHeader, noRoom, attemptsUsedUp, withdrawn, nothing, brokeItsWord, badSetup, alreadyEnded, doesNotFit}
 use Rattle.words.specs.declared.Command.{Command}
 use Rattle.words.specs.declared.Words.{Words}
+use Rattle.pages.specs.declared.Caps.{Caps}
 use Rattle.pages.specs.Pages.{telemetryPage, lastOf, sizeOf, topOf}
 use Rattle.words.specs.declared.Built.{Built}
 use Rattle.words.specs.Words.{taken, builtOf}
-use Rattle.header.specs.Header.{faultless, answerOf as checkAnswer, checkOf}
 use Rattle.records.specs.declared.Record.{Record}
 use Rattle.records.specs.Records.{agreesWith}
 use Rattle.verdicts.specs.Verdicts.{commandOrder, candidateOk, fieldBad, lastAfter, commandAnswer, captureAnswer}
@@ -24,6 +24,8 @@ use Rattle.plans.specs.declared.Plan.{Plan}
 use Rattle.plans.specs.Phases.{endedBy}
 use Rattle.plans.specs.Plans.{planTests, withoutArea4, setupAnswer}
 use Rattle.completions.specs.declared.Seen.{Seen}
+use Rattle.completions.specs.Plan.{planOf}
+use Rattle.completions.specs.Planned.{by-answer}
 use Rattle.judgement.specs.declared.Ending.{Ending}
 use Rattle.judgement.specs.declared.Ending.the-variants.{Success, BadHeader, NoRoom, UsedUp, Withdrawn, Nothing, BrokeItsWord}
 use Rattle.judgement.specs.declared.Move.{Move}
@@ -99,9 +101,12 @@ drop-gives w = by-test (agreesWith (w .own) (length (w .host)) (length (w .contr
 
 -- ---- the host side
 
--- a header check
-pub check-gives : (page : ℕ) (da4s : Bool) (h : List ℕ) → among (success ∷ badHeader ∷ []) (checkAnswer (checkOf page da4s h .fault)) ≡ true
-check-gives page da4s h = pick-cases (λ (n : ℕ). among (success ∷ badHeader ∷ []) n ≡ true) (faultless (checkOf page da4s h .fault)) (λ e. refl) (λ e. refl)
+-- a plan from a header
+pub planned-gives : (page area : ℕ) (caps : Caps) (chunk room : ℕ) (h : List ℕ)
+    → among (success ∷ noArea4 ∷ badHeader ∷ noRoom ∷ nothing ∷ badSetup ∷ []) (planOf page area caps chunk room h .answer) ≡ true
+planned-gives page area caps chunk room h =
+    by-answer page area caps chunk room h (λ (n : ℕ). among (success ∷ noArea4 ∷ badHeader ∷ noRoom ∷ nothing ∷ badSetup ∷ []) n ≡ true)
+    refl refl (λ e. refl) refl refl (λ e. refl)
 
 -- the builder
 pub builder-gives : (page : ℕ) (create : Bool) (mcda : ℕ) (rae : Bool) (offset blocks : ℕ)

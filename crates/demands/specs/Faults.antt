@@ -1,7 +1,7 @@
 -- Document 02, Q-2, of a collection: a 7 carries what is at fault in the header just read, at a first and at a later header, and no other answer carries anything.
 -- Assumes nothing.
 use Prim.Native.Nat.{ℕ}
-use mathlib.Core.Path.{_≡_, refl, sym, ap, _∙_}
+use mathlib.Core.Path.{_≡_, refl, ap, _∙_}
 use mathlib.Core.List.{List}
 use mathlib.Core.Bool.{Bool, true, false}
 use lib.ListN.{length}
@@ -20,14 +20,14 @@ use Rattle.plans.specs.Plans.{setupAnswer}
 use Rattle.plans.specs.Awaited.{header-block}
 use Rattle.completions.specs.declared.Seen.{Seen}
 use Rattle.completions.specs.Completions.{seenOf}
-use Rattle.completions.specs.Looked.{look-header}
+use Rattle.completions.specs.Looked.{look-bad}
 use Rattle.judgement.specs.declared.Ending.the-variants.{BadHeader}
 use Rattle.judgement.specs.declared.Move.{Move}
 use Rattle.turns.specs.Refusals.{firstRefusal}
 use Rattle.collection.specs.declared.Collection.{Collection}
 use Rattle.collection.specs.declared.Stepped.{Stepped}
 use Rattle.collection.specs.Collection.{validState, completionFits, refusalOf, expectedOf, lookOf, moveOf, ends, setupOf, stepOf, answerOf, faultSaid}
-use Rattle.collection.specs.Laws.{not-refused, Says, says-nothing, move-cases}
+use Rattle.collection.specs.Laws.{state-valid, not-refused, Says, says-nothing, move-cases}
 use Rattle.collection.specs.Steps.{endedIn, makes, setup-taken, setup-refused, refused-step, taken-step, first-bad, later-bad}
 
 -- setup's answer carries nothing
@@ -67,20 +67,21 @@ module _ (s : Collection) (ok : Bool) (d : List ℕ) (n : ℕ) where
     pub long : length d ≡ block
     pub bad : faultless dataFault ≡ false
 
-  same-fault : judgedBy (s .phase) ≡ true → lookOf s d .fault ≡ dataFault
-  unfolding lookOf seenOf
-  same-fault j = ap (λ (h : Seen). h .fault) (look-header (s .phase) (s .plan) d j)
-
   -- then it ends the collection with 7, and with that fault
   pub bad-ends : Bad → stepOf s ok d n ≡ ends (endedIn s false) (BadHeader dataFault)
+  unfolding seenOf
   bad-ends b =
-      let bad : faultless (lookOf s d .fault) ≡ false = ap faultless (same-fault (b .judged)) ∙ b .bad in
-      by-header (s .phase) (b .judged) (λ f. first-bad s ok d n (b .taken) f (b .came) bad) (λ f. later-bad s ok d n (b .taken) f (b .came) bad)
-      ∙ ap (λ (x : Fault). ends (endedIn s false) (BadHeader x)) (same-fault (b .judged))
+      by-header (s .phase) (b .judged) (λ f. first-bad s ok d n (b .taken) f (b .came) (b .bad)) (λ f. later-bad s ok d n (b .taken) f (b .came) (b .bad))
 
   module _ (r : refusalOf s ok (length d) n ≡ success) where
     t : Tells s ok (lookOf s d) (stepOf s ok d n)
     t = rw (taken-step s ok d n r) (tells s ok (lookOf s d))
+
+    -- with 7, what is seen is at fault, and the check finds it so
+    at-fault : answerOf (stepOf s ok d n .next) ≡ badHeader → (faultless dataFault ≡ false) × (lookOf s d .fault ≡ dataFault)
+    unfolding lookOf seenOf
+    at-fault q =
+        look-bad (s .phase) (s .plan) d (state-valid s (not-refused s ok (length d) n r .state) .plan) (t .judged q) (t .first q) (t .later q)
 
     long-block : judgedBy (s .phase) ≡ true → ok ≡ true → length d ≡ block
     unfolding expectedOf
@@ -95,14 +96,14 @@ module _ (s : Collection) (ok : Bool) (d : List ℕ) (n : ℕ) where
       judged = t .judged q;
       came = t .came q;
       long = long-block (t .judged q) (t .came q);
-      bad = ap faultless (sym (same-fault (t .judged q))) ∙ t .bad q;
+      bad = at-fault q .0;
     }
 
     taken-carries : faultSaid (stepOf s ok d n .next) ≡ pick (eqb (answerOf (stepOf s ok d n .next)) badHeader) dataFault None
     taken-carries =
         t .told
         ∙ same-or-not (answerOf (stepOf s ok d n .next)) badHeader
-        (λ q. rw (eq-eqb _ badHeader q) (same-fault (t .judged q)))
+        (λ q. rw (eq-eqb _ badHeader q) (at-fault q .1))
         (λ q. rw (ne-eqb _ badHeader q))
 
   module _ (r : refusalOf s ok (length d) n ≡ success → ⊥) where

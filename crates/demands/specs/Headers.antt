@@ -1,22 +1,26 @@
--- Demand 2 of any command: whoever reads a page's first 512 bytes, with whatever words, gets a header that is checked to the record's fields; and a page has
--- its size.
+-- Demand 2 of any command: whoever reads a page's first 512 bytes, with whatever words, gets a header that is checked to the record's fields, and planned
+-- to them where the plan is not refused; and a page has its size.
 -- Assumes nothing.
 use Prim.Native.Nat.{ℕ, _*_, _≤_}
 use mathlib.Core.Path.{_≡_, refl, sym, ap, subst, _∙_}
 use mathlib.Core.List.{List, _++_, append-assoc}
-use mathlib.Core.Bool.{true}
+use mathlib.Core.Bool.{Bool, true}
 use native.Mathlib.Omega.{arith}
 use lib.ListN.{length, take, drop, length-take, length-append}
 use lib.Seq.{take-append-le, take-take, take-at}
-use Rattle.choices.specs.Tests.{by-test}
+use Rattle.choices.specs.Tests.{by-test, clash}
 use Rattle.copies.specs.Parts.{zeros}
-use Rattle.answers.specs.Answers.{success}
+use Rattle.answers.specs.Answers.{success, badHeader}
 use Rattle.pages.specs.declared.Caps.{Caps}
 use Rattle.pages.specs.Pages.{block, telemetryPage, sizeOf}
 use Rattle.words.specs.declared.Command.{Command}
 use Rattle.words.specs.declared.Words.{Words}
 use Rattle.header.specs.declared.Fault.the-variants.{None}
-use Rattle.header.specs.Header.{headerOf, checkOf}
+use Rattle.header.specs.declared.Checked.{Checked}
+use Rattle.header.specs.Header.{headerOf, faultless, checkOf}
+use Rattle.completions.specs.declared.Planned.{Planned}
+use Rattle.completions.specs.Plan.{planOf}
+use Rattle.completions.specs.Planned.{planned-good, planned-bad-only}
 use Rattle.records.specs.Records.{fieldsFor, blocksFor, sizeFor}
 use Rattle.records.specs.Back.{Typed, record-reads-back}
 use Rattle.serving.specs.Serving.{pageBytes, windowOf, window-length}
@@ -71,6 +75,24 @@ module _ (w : World) (candidate : Candidate) (words : Words) (buf : List ℕ) (t
       ap (λ (x : List ℕ). checkOf (c .page) (w .own .caps .da4s) x) it
       ∙ ap (λ (x : Caps). checkOf (c .page) (x .da4s) h) (sym (kept .2))
       ∙ record-reads-back (served .own) (length (served .host)) (length (served .controller)) (c .page) (kept .1 .sized) (kept .0) (yes .served)
+
+  -- And a plan from it, under the controller's DA4S, is never refused as of a bad header, and has those fields where it is not refused.
+  pub header-not-bad : (area : ℕ) (caps : Caps) (chunk room : ℕ) → caps .da4s ≡ w .own .caps .da4s → c .offset ≡ 0 → block ≤ c .bytes
+      → planOf (c .page) area caps chunk room (take block (commandOf w candidate words buf .buf)) .answer ≡ badHeader → ⊥
+  header-not-bad area caps chunk room same o n e =
+      let h : List ℕ = take block (commandOf w candidate words buf .buf) in
+      let good : faultless (checkOf (c .page) (caps .da4s) h .fault) ≡ true =
+      ap (λ (t : Bool). faultless (checkOf (c .page) t h .fault)) same ∙ ap (λ (x : Checked). faultless (x .fault)) (header-brought o n) in
+      clash good (planned-bad-only (c .page) area caps chunk room h e)
+
+  pub header-planned : (area : ℕ) (caps : Caps) (chunk room : ℕ) → caps .da4s ≡ w .own .caps .da4s → c .offset ≡ 0 → block ≤ c .bytes
+      → planOf (c .page) area caps chunk room (take block (commandOf w candidate words buf .buf)) .answer ≡ success
+      → planOf (c .page) area caps chunk room (take block (commandOf w candidate words buf .buf)) .fields ≡ fieldsFor (c .page) (served .own)
+  header-planned area caps chunk room same o n e =
+      let h : List ℕ = take block (commandOf w candidate words buf .buf) in
+      ap (λ (x : Planned). x .fields) (planned-good (c .page) area caps chunk room h e)
+      ∙ ap (λ (t : Bool). checkOf (c .page) t h .fields) same
+      ∙ ap (λ (x : Checked). x .fields) (header-brought o n)
 
 -- A page is as long as its size says.
 pub page-length : (page : ℕ) (w : World) → Typed (w .own) → Agrees w → telemetryPage page ≡ true → length (pageOf page w) ≡ sizeFor page (w .own)

@@ -2,3 +2,4 @@ pub mod Answers
 pub mod Headers
 pub mod Faults
 pub mod Fields
+pub mod Plans

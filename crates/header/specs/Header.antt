@@ -11,7 +11,6 @@ use Rattle.choices.specs.Tests.{holds}
 use Rattle.copies.specs.Parts.{zeros}
 use Rattle.littleendian.specs.Numbers.{bytesOf, valueAt, reasonAt}
 use Rattle.pages.specs.Pages.{hostPage, telemetryPage, block, area2Ok, area3Ok, area4Ok, lastOk, perPage}
-use Rattle.answers.specs.Answers.{success, badHeader}
 use Rattle.header.specs.declared.Fields.{Fields}
 use Rattle.header.specs.declared.Fault.{Fault}
 use Rattle.header.specs.declared.Fault.the-variants.{None, Length, Identifier, Area2, Area3, Area4, Scope, Available, Empty}
@@ -85,10 +84,6 @@ faultless Area4 = false
 faultless Scope = false
 faultless Available = false
 faultless Empty = false
-
--- the paper's number of a check: every fault is a bad header
-abbrev pub answerOf : Fault → ℕ
-answerOf x = pick (faultless x) success badHeader
 
 -- the byte at which the field at fault starts: a length is told at byte 0, and available but empty at area 3's last block
 abbrev pub byteOf : ℕ → Fault → ℕ

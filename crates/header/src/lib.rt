@@ -1,18 +1,14 @@
-// The 512-byte header of the pages 07h and 08h: written from its fields, and checked and read by the host.
+// The 512-byte header of the pages 07h and 08h: written from its fields, and what a check of it is. The check itself is the host's alone.
 //
-// It rests on choices, copies, littleendian, answers and pages. It promises that the bytes written, the fields read and the fault found are those of
-// specs/Header.antt, that the fault is the first of its order (specs/Faults.antt), and that a header written from fields that are good is
-// checked to exactly those fields (specs/Back.antt).
+// It rests on choices, copies, littleendian and pages. It promises that the bytes written are those of specs/Header.antt. What a check finds is defined
+// there too: that its fault is the first of the order (specs/Faults.antt), and that a header written from fields that are good is checked to exactly
+// those fields (specs/Back.antt).
 ghost use Prim.Native.Nat.{ℕ};
 ghost use mathlib.Core.Path.{_≡_};
 ghost use mathlib.Core.List.{_∷_, _++_};
-ghost use lib.ListN.{length};
-ghost use Rattle.choices.specs.Choice.{firstThat};
 ghost use Rattle.copies.specs.Parts.{zeros};
 ghost use Rattle.littleendian.specs.Numbers.{foursOf};
-ghost use Rattle.pages.specs.Pages.{block};
-ghost use Rattle.header.specs.declared.Fault.the-variants.{None};
-ghost use Rattle.header.specs.Header.{numbers, marks, headerOf, fieldsOf, faultless, answerOf, byteOf, faultOrder, fieldFault, noFields, checkOf};
+ghost use Rattle.header.specs.Header.{numbers, marks, headerOf, faultless, byteOf};
 
 // What a header says. `hostgeneration` is the host generation, which an 08h header does not have: 0 there. `controllergeneration` is the controller
 // generation.
@@ -95,83 +91,6 @@ pub fn write(f: Fields) -> [u8; 512]
     out
 }
 
-// The fields in a header's bytes, asked for as this page. Its numbers of two and three bytes are parts of numbers of four.
-fn fields_of(page: u8, h: &[u8]) -> Fields
-    requires { ⌜ length (now h) ≡ block ⌝ }
-    ensures { λ r. ⌜ r ≡ fieldsOf page (now (h .entry)) ⌝ }
-{
-    let host = page == pages::HOST;
-    let second = h[381];
-    let oui = littleendian::value4_at(h, 4) / 256;
-    let areas12 = littleendian::value4_at(h, 8);
-    let area3 = littleendian::value4_at(h, 12) % 65536;
-    let area4 = littleendian::value4_at(h, 16);
-    let last = [areas12 % 65536, areas12 / 65536, area3, area4];
-    let reason = littleendian::reason_at(h, 384);
-    Fields {
-        page: h[0],
-        oui,
-        last,
-        scope: choices::pick_u8(host, h[380], second),
-        hostgeneration: choices::pick_u8(host, second, 0),
-        tcda: h[382],
-        controllergeneration: h[383],
-        reason,
-    }
-}
-
-// The first fault, from what of the fields is as it should be.
-fn first_fault(
-    identifier: bool,
-    area2: bool,
-    area3: bool,
-    area4: bool,
-    scope: bool,
-    available: bool,
-    some: bool,
-) -> Fault
-    ensures { λ r. ⌜ r ≡ firstThat (faultOrder identifier area2 area3 area4 scope available some) None ⌝ }
-{
-    if !identifier {
-        return Fault::Identifier;
-    }
-    if !area2 {
-        return Fault::Area2;
-    }
-    if !area3 {
-        return Fault::Area3;
-    }
-    if !area4 {
-        return Fault::Area4;
-    }
-    if !scope {
-        return Fault::Scope;
-    }
-    if !available {
-        return Fault::Available;
-    }
-    if !some {
-        return Fault::Empty;
-    }
-    Fault::None
-}
-
-fn fault_of(page: u8, da4s: bool, f: Fields) -> Fault
-    ensures { λ r. ⌜ r ≡ fieldFault page da4s f ⌝ }
-{
-    let last = f.last;
-    let a3 = last[2];
-    first_fault(
-        ((page == pages::HOST) | (page == pages::CONTROLLER)) & (f.page == page),
-        pages::area2_ok(last),
-        pages::area3_ok(last),
-        pages::area4_ok(da4s, last),
-        f.scope <= 2,
-        f.tcda <= 1,
-        (page == pages::HOST) | (f.tcda == 0) | (0 < a3),
-    )
-}
-
 // Nothing is at fault.
 pub fn faultless(x: Fault) -> bool
     ensures { λ r. ⌜ r ≡ faultless x ⌝ }
@@ -189,13 +108,6 @@ pub fn faultless(x: Fault) -> bool
     }
 }
 
-// The answer's number of a check: 0 where nothing is at fault, else 7.
-pub fn answer_of(x: Fault) -> u8
-    ensures { λ r. ⌜ r ≡ answerOf x ⌝ }
-{
-    choices::pick_u8(faultless(x), answers::SUCCESS, answers::BAD_HEADER)
-}
-
 // The byte at which the field at fault starts in a header of this page; 0 where nothing is at fault.
 pub fn byte_of(page: u8, x: Fault) -> u16
     ensures { λ r. ⌜ r ≡ byteOf page x ⌝ }
@@ -211,39 +123,4 @@ pub fn byte_of(page: u8, x: Fault) -> u16
         Fault::Available => 382,
         Fault::Empty => 12,
     }
-}
-
-// What a check answers of a header at fault: zeros in place of the fields.
-fn refused(x: Fault) -> Checked
-    ensures { λ r. ⌜ r ≡ record { fault = x; fields = noFields } ⌝ }
-{
-    let fields = Fields {
-        page: 0,
-        oui: 0,
-        last: [0; 4],
-        scope: 0,
-        hostgeneration: 0,
-        tcda: 0,
-        controllergeneration: 0,
-        reason: [0; 128],
-    };
-    Checked { fault: x, fields }
-}
-
-// The fields of a header of the page asked for, under a DA4S, or what is at fault in it.
-pub fn check(page: u8, da4s: bool, h: &[u8]) -> Checked
-    ensures { λ r. ⌜ r ≡ checkOf page da4s (now (h .entry)) ⌝ }
-{
-    if h.len() != pages::BLOCK {
-        return refused(Fault::Length);
-    }
-    let f = fields_of(page, h);
-    let x = fault_of(page, da4s, f);
-    if faultless(x) {
-        return Checked {
-            fault: x,
-            fields: f,
-        };
-    }
-    refused(x)
 }

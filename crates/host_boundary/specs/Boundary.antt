@@ -27,8 +27,8 @@ abbrev pub wordsList : Words → List ℕ
 wordsList w = w .cdw10 ∷ w .cdw11 ∷ w .cdw12 ∷ w .cdw13 ∷ w .cdw14 ∷ []
 
 -- what setup is asked for
-abbrev pub planOf : ℕ → ℕ → ℕ → ℕ → ℕ → ℕ → ℕ → Plan
-planOf page create area caps chunk attempts room = record {
+abbrev pub setupPlan : ℕ → ℕ → ℕ → ℕ → ℕ → ℕ → ℕ → Plan
+setupPlan page create area caps chunk attempts room = record {
   page = page;
   create = flagOf create;
   area = area;

@@ -1,5 +1,5 @@
 -- What a caller across the boundary may rest on: a refusal changes nothing, a state that is written is intact and so can be lent again, and
--- damaged capabilities are refused.
+-- setup and a plan refuse damaged capabilities.
 -- Assumes nothing.
 use Prim.Native.Nat.{ℕ, _<_}
 use mathlib.Core.Path.{_≡_, refl, sym, ap, _∙_}
@@ -13,6 +13,8 @@ use Rattle.choices.specs.Choice.{pick-cases}
 use Rattle.choices.specs.Tests.{holds, each, by-test, clash, and-left}
 use Rattle.answers.specs.Answers.{success, badSetup}
 use Rattle.completions.specs.declared.Seen.{Seen}
+use Rattle.completions.specs.Plan.{leastPlan, answerTo, planOf}
+use Rattle.completions.specs.Planned.{planned-answer}
 use Rattle.judgement.specs.declared.Move.{Move}
 use Rattle.judgement.specs.declared.Move.the-variants.{End, Open, More, Skip, Acknowledge}
 use Rattle.plans.specs.Plans.{planTests, setupAnswer}
@@ -24,7 +26,7 @@ use Rattle.shared_layouts.specs.Layouts.{mostCaps, capsOf}
 use Rattle.state_layout.specs.Layout.{stateAt, stateIntact}
 use Rattle.next_layout.specs.Layout.{refusal, kindOf}
 use Rattle.state_layout.specs.Back.{state-intact}
-use Rattle.host_boundary.specs.Boundary.{planOf, stepAt}
+use Rattle.host_boundary.specs.Boundary.{setupPlan, stepAt}
 
 -- what a completion calls for is no refusal
 act-kind : (s : Collection) (h : Seen) (m : Move) → kindOf (makes s h m .next) ≡ refusal → ⊥
@@ -61,10 +63,20 @@ module _ (s : List ℕ) (ok : Bool) (d copy : List ℕ) where
 
 -- setup refuses capabilities over 31 with 13
 pub damaged-refused : (page create area caps chunk attempts room : ℕ) → mostCaps < caps
-    → setupAnswer (planOf page create area caps chunk attempts room) ≡ badSetup
+    → setupAnswer (setupPlan page create area caps chunk attempts room) ≡ badSetup
 unfolding setupAnswer capsOf
 damaged-refused page create area caps chunk attempts room h =
-    let p = planOf page create area caps chunk attempts room in
+    let p = setupPlan page create area caps chunk attempts room in
     by-test (holds (planTests p))
     (λ t. clash {t = p .caps .extended} (and-left _ _ (each (planTests p) t 5)) (rw (lt-leb caps mostCaps h)))
     (λ f. rw f)
+
+-- and so does a plan
+pub plan-damaged : (page area caps chunk room : ℕ) (h : List ℕ) → mostCaps < caps → planOf page area (capsOf caps) chunk room h .answer ≡ badSetup
+unfolding answerTo capsOf
+plan-damaged page area caps chunk room h l =
+    let p = leastPlan page area (capsOf caps) chunk room in
+    rw (planned-answer page area (capsOf caps) chunk room h)
+    (by-test (holds (planTests p))
+    (λ t. clash {t = p .caps .extended} (and-left _ _ (each (planTests p) t 5)) (rw (lt-leb caps mostCaps l)))
+    (λ f. rw f))

@@ -8,20 +8,23 @@ use lib.ListN.{length}
 use borrow.Author.Tests.{eq-eqb, ne-eqb, not-true, not-false}
 use Rattle.answers.specs.Answers.{badSetup}
 use Rattle.words.specs.declared.Built.{Built}
-use Rattle.header.specs.declared.Checked.{Checked}
-use Rattle.header.specs.Header.{answerOf}
+use Rattle.pages.specs.declared.Caps.{Caps}
+use Rattle.completions.specs.declared.Planned.{Planned}
+use Rattle.completions.specs.Plan.{planOf}
 use Rattle.collection.specs.declared.Collection.{Collection}
 use Rattle.collection.specs.declared.Next.the-variants.{Refuse}
 use Rattle.collection.specs.declared.Stepped.{Stepped}
 use Rattle.collection.specs.Collection.{stepOf, copyAfter}
-use Rattle.shared_layouts.specs.Layouts.{fieldsBytes}
+use Rattle.planned_layout.specs.Layout.{plannedBytes}
 use Rattle.state_layout.specs.Layout.{stateBytes, stateAt, stateIntact}
 use Rattle.next_layout.specs.Layout.{refusal, kindOf, nextBytes}
 use Rattle.host_boundary.specs.Boundary.{wordsList, stepAnswer, stateAfter, stepAt}
 
-pub check-is : (page : ℕ) {x y : Checked} {n : ℕ} {w : List ℕ} → x ≡ y → w ≡ fieldsBytes page x → n ≡ answerOf (x .fault)
-    → (n ≡ answerOf (y .fault)) × (w ≡ fieldsBytes page y)
-check-is page e w a = (a ∙ ap (λ (c : Checked). answerOf (c .fault)) e, w ∙ ap (fieldsBytes page) e)
+pub plan-is : (page area chunk room : ℕ) (h : List ℕ) {can caps : Caps} {x : Planned} {w : List ℕ} → can ≡ caps → x ≡ planOf page area can chunk room h
+    → w ≡ plannedBytes page x → (x .answer ≡ planOf page area caps chunk room h .answer) × (w ≡ plannedBytes page (planOf page area caps chunk room h))
+plan-is page area chunk room h ec ex ew =
+    let e = ex ∙ ap (λ (c : Caps). planOf page area c chunk room h) ec in
+    (ap (λ (y : Planned). y .answer) e, ew ∙ ap (plannedBytes page) e)
 
 pub words-are : {x y : Built} {w : List ℕ} → x ≡ y → w ≡ wordsList (x .words) → (x .answer ≡ y .answer) × (w ≡ wordsList (y .words))
 words-are e w = (ap (λ (b : Built). b .answer) e, w ∙ ap (λ (b : Built). wordsList (b .words)) e)

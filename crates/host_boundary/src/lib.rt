@@ -1,6 +1,6 @@
 // The host's functions of include/bumbazeel.h: thin, over what the bytes that C lends say.
 //
-// It rests on shared_layouts, state_layout and next_layout for the structs, and on header, words and collection for the work. It promises each
+// It rests on shared_layouts, planned_layout, state_layout and next_layout for the structs, and on header, words, completions and collection for the work. It promises each
 // function's answer and every lent byte afterwards, for all arguments, as an equation with the definitions that those crates' contracts
 // cite (specs/Boundary.antt). A damaged state is refused, and what is refused changes nothing (specs/Laws.antt). A struct of the header
 // file is an array of its bytes here, and a pointer with a length is a slice. No copy or data is moved but by the call that serves it.
@@ -10,12 +10,14 @@ use plans::Plan;
 use words::Words;
 ghost use mathlib.Core.Path.{_≡_};
 ghost use Rattle.words.specs.Words.{builtOf};
-ghost use Rattle.header.specs.Header.{answerOf, byteOf, checkOf};
+ghost use Rattle.header.specs.Header.{byteOf};
+ghost use Rattle.completions.specs.Plan.{planOf};
 ghost use Rattle.collection.specs.Collection.{setupOf};
-ghost use Rattle.shared_layouts.specs.Layouts.{faultBy, fieldsBytes};
+ghost use Rattle.shared_layouts.specs.Layouts.{capsOf, faultBy};
+ghost use Rattle.planned_layout.specs.Layout.{plannedBytes};
 ghost use Rattle.state_layout.specs.Layout.{stateBytes};
 ghost use Rattle.next_layout.specs.Layout.{kindOf, nextBytes};
-ghost use Rattle.host_boundary.specs.Boundary.{flagOf, wordsList, planOf, stateAfter, stepAnswer, stepAt};
+ghost use Rattle.host_boundary.specs.Boundary.{flagOf, wordsList, setupPlan, stateAfter, stepAnswer, stepAt};
 
 fn words_list(w: Words) -> [u32; 5]
     ensures { λ r. ⌜ r ≡ wordsList w ⌝ }
@@ -23,18 +25,25 @@ fn words_list(w: Words) -> [u32; 5]
     [w.cdw10, w.cdw11, w.cdw12, w.cdw13, w.cdw14]
 }
 
-// Checks a header, and writes its fields, or what is at fault in it and zeros.
+// Plans a collection from a header, and writes what it says and the number of chunks, or zeros, with 7 what is at fault.
 #[no_mangle]
-pub extern "C" fn bumbazeel_check(page: u8, da4s: u8, h: &[u8], fields: &mut [u8; 156]) -> u8
+pub extern "C" fn bumbazeel_plan(
+    page: u8,
+    area: u8,
+    caps: u8,
+    chunk: u32,
+    room: usize,
+    h: &[u8],
+    planned: &mut [u8; 160],
+) -> u8
     ensures { λ r. ⌜
-        (r ≡ answerOf (checkOf page (flagOf da4s) (now (h .entry)) .fault))
-        × (now (fields .exit) ≡ fieldsBytes page (checkOf page (flagOf da4s) (now (h .entry))))
+        (r ≡ planOf page area (capsOf caps) chunk room (now (h .entry)) .answer)
+        × (now (planned .exit) ≡ plannedBytes page (planOf page area (capsOf caps) chunk room (now (h .entry))))
         ⌝ }
 {
-    let x = header::check(page, da4s != 0, h);
-    let fault = x.fault;
-    *fields = shared_layouts::write_fields(page, x);
-    header::answer_of(fault)
+    let x = completions::plan(page, area, shared_layouts::read_caps(caps), chunk, room, h);
+    *planned = planned_layout::write_planned(page, x);
+    x.answer
 }
 
 // The byte at which a field, by its number, starts in a header of the page.
@@ -81,9 +90,9 @@ pub extern "C" fn bumbazeel_setup(
     next: &mut [u8; 32],
 ) -> u8
     ensures { λ r. ⌜
-        (r ≡ kindOf (setupOf (planOf page create area caps chunk attempts room) .next))
-        × (now (state .exit) ≡ stateBytes (setupOf (planOf page create area caps chunk attempts room) .state))
-        × (now (next .exit) ≡ nextBytes (setupOf (planOf page create area caps chunk attempts room) .next))
+        (r ≡ kindOf (setupOf (setupPlan page create area caps chunk attempts room) .next))
+        × (now (state .exit) ≡ stateBytes (setupOf (setupPlan page create area caps chunk attempts room) .state))
+        × (now (next .exit) ≡ nextBytes (setupOf (setupPlan page create area caps chunk attempts room) .next))
         ⌝ }
 {
     let can = shared_layouts::read_caps(caps);

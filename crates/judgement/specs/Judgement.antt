@@ -1,4 +1,4 @@
--- Document 01, "Host: header check and collection", and document 02, Q-1, on what a completion calls for: first what it tells, test by test, and
+-- Document 01, "Host: header check and collection", and document 02, Q-1 and Q-4, on what a completion calls for: first what it tells, test by test, and
 -- then the orders of endings over the tests. h is what is seen of its data, a the attempt.
 -- Assumes nothing.
 use Prim.Native.Nat.{ℕ}
@@ -6,6 +6,7 @@ use mathlib.Core.List.{[], _∷_}
 use mathlib.Core.Bool.{Bool, true, false, not, _&&_}
 use lib.Dec.{leb, eqb}
 use Rattle.choices.specs.Choice.{firstThat}
+use Rattle.answers.specs.Answers.{badHeader, noRoom, nothing}
 use Rattle.pages.specs.Pages.{controllerPage, sameLast}
 use Rattle.header.specs.Header.{faultless}
 use Rattle.plans.specs.declared.Plan.{Plan}
@@ -33,6 +34,7 @@ newerThan a h = not (eqb (h .generation) (a .generation))
 unfoldable pub testsOf : Plan → Attempt → Bool → Seen → Tests
 testsOf p a ok h = record {
   refused = not ok;
+  answer = h .answer;
   fault = h .fault;
   bad = not (faultless (h .fault));
   none = showsNone p h;
@@ -45,14 +47,14 @@ testsOf p a ok h = record {
 
 -- ---- what it calls for
 
--- a first header: 12, 7, 11, 8, or else it opens the attempt
+-- a first header: 12, and then as its plan answers, 7, 11, 8, or else it opens the attempt
 unfoldable pub firstOrder : Tests → Move
 firstOrder t =
     firstThat
     ((t .refused, End BrokeItsWord false)
-    ∷ (t .bad, End (BadHeader (t .fault)) false)
-    ∷ (t .none, End Nothing false)
-    ∷ (t .large, End NoRoom false)
+    ∷ (eqb (t .answer) badHeader, End (BadHeader (t .fault)) false)
+    ∷ (eqb (t .answer) nothing, End Nothing false)
+    ∷ (eqb (t .answer) noRoom, End NoRoom false)
     ∷ [])
     (Open false)
 

@@ -91,11 +91,12 @@ pub fn fault(ending: Ending) -> Fault
 
 // ---- what a completion calls for
 
-// What a completion tells of an attempt, test by test: it is refused; its header has a fault; an 08h header shows no data; the area is larger than
-// the copy; the header matches the attempt's, in its generation and all four last blocks; its generation is another; no attempt is left; the page
-// is one to acknowledge.
+// What a completion tells of an attempt, test by test: it is refused; what the plan from a first header answers; a header's fault, and that it has one; an
+// 08h header shows no data; the area is larger than the copy; the header matches the attempt's, in its generation and all four last blocks; its
+// generation is another; no attempt is left; the page is one to acknowledge.
 struct Tests {
     refused: bool,
+    answer: u8,
     fault: Fault,
     bad: bool,
     none: bool,
@@ -116,6 +117,7 @@ fn tests_of(p: Plan, a: Attempt, ok: bool, h: Seen) -> Tests
     let generation = h.generation == a.generation;
     Tests {
         refused: !ok,
+        answer: h.answer,
         fault,
         bad: !header::faultless(fault),
         none: acknowledged & (h.tcda == 0),
@@ -127,21 +129,24 @@ fn tests_of(p: Plan, a: Attempt, ok: bool, h: Seen) -> Tests
     }
 }
 
-// 12, 7, 11, 8, or else the header opens the attempt.
+// 12, and then as its plan answers: 7, 11, 8, or else the header opens the attempt.
 fn first_of(t: Tests) -> Move
     ensures { λ r. ⌜ r ≡ firstOrder t ⌝ }
 {
     let fault = t.fault;
+    let bad = t.answer == answers::BAD_HEADER;
+    let none = t.answer == answers::NOTHING;
+    let large = t.answer == answers::NO_ROOM;
     if t.refused {
         return Move::End(Ending::BrokeItsWord, false);
     }
-    if t.bad {
+    if bad {
         return Move::End(Ending::BadHeader(fault), false);
     }
-    if t.none {
+    if none {
         return Move::End(Ending::Nothing, false);
     }
-    if t.large {
+    if large {
         return Move::End(Ending::NoRoom, false);
     }
     Move::Open(false)

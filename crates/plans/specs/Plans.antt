@@ -1,7 +1,7 @@
 -- Document 01, "Host: header check and collection", on what needs no state: setup's limits, and what each phase awaits. The definitions stand in
 -- the paper's order. w is the wanted area, B its last block, c the blocks of a command.
 -- Assumes nothing.
-use Prim.Native.Nat.{ℕ, _+_, _-_, _*_, _%_}
+use Prim.Native.Nat.{ℕ, _+_, _-_, _*_, _/_, _%_}
 use mathlib.Core.List.{List, [], _∷_}
 use mathlib.Core.Bool.{Bool, true, false, not, _&&_}
 use lib.Dec.{leb, eqb}
@@ -67,6 +67,14 @@ fitsRoom p last = leb (areaBytes p last) (p .room)
 -- the blocks of the chunk at a block: c, or what is left up to B
 unfoldable pub chunkBlocks : ℕ → ℕ → ℕ → ℕ
 chunkBlocks c at b = smaller c (b + 1 - at)
+
+-- the chunks from a block on: ⌈(B + 1 - at) / c⌉
+abbrev pub chunksFrom : ℕ → ℕ → ℕ → ℕ
+chunksFrom c at b = (b + c - at) / c
+
+-- the chunks of the wanted area: ⌈B / c⌉
+abbrev pub chunksOf : Plan → List ℕ → ℕ
+chunksOf p last = chunksFrom (p .chunk) 1 (areaLast p last)
 
 -- MCDA of the first command: the wanted area with create, if MCDA is honoured
 abbrev pub mcdaOf : Plan → ℕ

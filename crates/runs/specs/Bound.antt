@@ -3,7 +3,7 @@
 -- more, and so is the acknowledgement.
 -- Assumes nothing.
 use Prim.Native.Nat.{ℕ, _+_, _-_, _*_, _≤_, _<_}
-use mathlib.Core.Path.{_≡_, refl, sym, _∙_}
+use mathlib.Core.Path.{_≡_, refl, sym, subst, _∙_}
 use mathlib.Core.List.{List, [], _∷_, _++_}
 use mathlib.Core.Bool.{Bool, true, false, not, _&&_}
 use native.Mathlib.Omega.{arith}
@@ -27,23 +27,23 @@ use Rattle.judgement.specs.declared.Ending.{Ending}
 use Rattle.judgement.specs.declared.Ending.the-variants.{Success, NoRoom}
 use Rattle.judgement.specs.declared.Move.{Move}
 use Rattle.judgement.specs.declared.Move.the-variants.{End, Open, More, Skip, Acknowledge}
-use Rattle.plans.specs.Limits.{plan-limits, area-limit, chunk-inside}
+use Rattle.plans.specs.Limits.{plan-limits, chunk-inside}
 use Rattle.plans.specs.Phases.{judgedBy, endedBy, closingBy, silentBy, closing-is}
-use Rattle.plans.specs.Plans.{setupAnswer, areaLast, fitsRoom, insideBy, withinBy, phaseAt}
+use Rattle.plans.specs.Plans.{setupAnswer, areaLast, fitsRoom, chunksFrom, chunksOf, insideBy, withinBy, phaseAt}
 use Rattle.completions.specs.Completions.{seenOf}
-use Rattle.completions.specs.Looked.{look-header}
+use Rattle.completions.specs.Looked.{TakenByPlan, Opens, look-closing, taken-as-checked, opens-chunks, chunks-at-most}
 use Rattle.turns.specs.Refusals.{mostCount}
 use Rattle.collection.specs.Collection.{validState, completionFits, lookOf, refusalOf, moveOf, setupOf, answerOf}
 use Rattle.collection.specs.Laws.{move-cases}
-use Rattle.collection.specs.Steps.{makes, setup-taken, refused-step, taken-step}
+use Rattle.collection.specs.Steps.{makes, setup-taken, refused-step, taken-step, looks-planned}
 use Rattle.collection.specs.declared.Collection.{Collection}
-use Rattle.runs.specs.Run.{Completion, stepBy, after, stateOf, chunksFrom, chunksOf, calledFor, mostChunks, headersOf, acknowledging, fitting}
+use Rattle.runs.specs.Run.{Completion, stepBy, after, stateOf, calledFor, mostChunks, headersOf, acknowledging, fitting}
 use Rattle.runs.specs.Counted.{step-counts, plan-stays}
 
 -- ---- chunks
 
 -- a chunk is one of those that are left
-chunks-less : (c at b : ℕ) → 1 ≤ c → at ≤ b → chunksFrom c at b ≡ chunksFrom c (at + c) b + 1
+pub chunks-less : (c at b : ℕ) → 1 ≤ c → at ≤ b → chunksFrom c at b ≡ chunksFrom c (at + c) b + 1
 chunks-less c at b l h =
     let e : b + c - at - c ≡ b + c - (at + c) = omega arith in
     let d = div-eq-sub-div {m = c} {n = b + c - at} l (omega arith) in
@@ -117,16 +117,19 @@ unfolding phaseAt
 at-few at most n t p last h =
     pick-cases (λ (f : Phase). n + dueBy f most p last ≤ extraBy f p + t) (leb at (areaLast p last)) (λ e. h) (λ e. omega arith)
 
--- what a move leads to, where a judged header that fits the copy calls for at most most chunks
+-- what a move leads to
 abbrev Leads : ℕ → Collection → Seen → Move → Type 0
-Leads most s h m =
-    (judgedBy (s .phase) ≡ true → fitsRoom (s .plan) (h .last) ≡ true → chunksOf (s .plan) (h .last) ≤ most)
-    → Reached most (makes s h m .state)
+Leads most s h m = Reached most (makes s h m .state)
 
-module _ (most : ℕ) (s : Collection) (h : Seen) (r : Reached most s) where
+-- a header that opens an attempt fits the copy and calls for at most most chunks: a first one that its plan takes, and a later one
+record Calls (most : ℕ) (s : Collection) (h : Seen) : Type 0 where
+  first : s .phase ≡ First → TakenByPlan h → (fitsRoom (s .plan) (h .last) ≡ true) × (chunksOf (s .plan) (h .last) ≤ most)
+  later : closingBy (s .phase) ≡ true → Opens (s .plan) h → chunksOf (s .plan) (h .last) ≤ most
+
+module _ (most : ℕ) (s : Collection) (h : Seen) (r : Reached most s) (c : Calls most s h) where
   over : (e : Ending) → Leads most s h (End e false)
   unfolding makes
-  over e c = record {
+  over e = record {
     plan = r .plan;
     low = r .low;
     high = r .high;
@@ -137,43 +140,43 @@ module _ (most : ℕ) (s : Collection) (h : Seen) (r : Reached most s) where
 
   large : (e : Ending) → closingBy (s .phase) ≡ true → s .attempt .number < s .plan .attempts → Leads most s h (End e true)
   unfolding makes
-  large e f l c =
+  large e f l =
       let n = few-closing (s .phase) most (s .count) (s .attempt .number * (most + 1)) (s .plan) (s .attempt .last) f (r .few) in
       let a = add-mul (s .attempt .number) 1 (most + 1) in
       record { plan = r .plan; low = omega arith; high = omega arith; room = r .room; inside = refl; few = omega arith }
 
-  first : s .phase ≡ First → fitsRoom (s .plan) (h .last) ≡ true → Leads most s h (Open false)
+  first : s .phase ≡ First → TakenByPlan h → Leads most s h (Open false)
   unfolding makes
-  first f w c =
+  first f o =
       let n : s .count + (most + 1) ≤ 1 + s .attempt .number * (most + 1) = rw f at (r .few) in
-      let k = c (rw f) w in
+      let k = c .first f o in
       record {
         plan = r .plan;
         low = r .low;
         high = r .high;
-        room = w;
+        room = k .0;
         inside = at-inside 1 (areaLast (s .plan) (h .last)) (omega arith);
         few = at-few 1 most (s .count + 1) (s .attempt .number * (most + 1)) (s .plan) (h .last) (omega arith);
       }
 
-  again : closingBy (s .phase) ≡ true → s .attempt .number < s .plan .attempts → fitsRoom (s .plan) (h .last) ≡ true → Leads most s h (Open true)
+  again : closingBy (s .phase) ≡ true → s .attempt .number < s .plan .attempts → Opens (s .plan) h → Leads most s h (Open true)
   unfolding makes
-  again f l w c =
+  again f l w =
       let n = few-closing (s .phase) most (s .count) (s .attempt .number * (most + 1)) (s .plan) (s .attempt .last) f (r .few) in
       let a = add-mul (s .attempt .number) 1 (most + 1) in
-      let k = c (rw (closing-is (s .phase) f .is)) w in
+      let k = c .later f w in
       record {
         plan = r .plan;
         low = omega arith;
         high = omega arith;
-        room = w;
+        room = w .fits;
         inside = at-inside 1 (areaLast (s .plan) (h .last)) (omega arith);
         few = at-few 1 most (s .count + 1) ((s .attempt .number + 1) * (most + 1)) (s .plan) (h .last) (omega arith);
       }
 
   more : (at : ℕ) → s .phase ≡ Chunk at → Leads most s h (More at)
   unfolding makes
-  more at f c =
+  more at f =
       let n : s .count + chunksFrom (s .plan .chunk) at (areaLast (s .plan) (s .attempt .last)) ≤ 1 + s .attempt .number * (most + 1) = rw f at (r .few) in
       let l = plan-limits (s .plan) (r .plan) in
       let i = chunk-inside at (areaLast (s .plan) (s .attempt .last)) (rw f at (r .inside)) in
@@ -189,7 +192,7 @@ module _ (most : ℕ) (s : Collection) (h : Seen) (r : Reached most s) where
 
   skip : (at : ℕ) → s .phase ≡ Chunk at → Leads most s h Skip
   unfolding makes
-  skip at f c =
+  skip at f =
       let n : s .count + chunksFrom (s .plan .chunk) at (areaLast (s .plan) (s .attempt .last)) ≤ 1 + s .attempt .number * (most + 1) = rw f at (r .few) in
       let l = plan-limits (s .plan) (r .plan) in
       let i = chunk-inside at (areaLast (s .plan) (s .attempt .last)) (rw f at (r .inside)) in
@@ -198,7 +201,7 @@ module _ (most : ℕ) (s : Collection) (h : Seen) (r : Reached most s) where
 
   acknowledge : s .phase ≡ Close false → s .plan .page ≡ controllerPage → Leads most s h Acknowledge
   unfolding makes
-  acknowledge f e c =
+  acknowledge f e =
       let a : acknowledging (s .plan) ≡ 1 = rw e in
       let n : s .count + 0 ≤ 1 + s .attempt .number * (most + 1) = rw f at (r .few) in
       record { plan = r .plan; low = r .low; high = r .high; room = r .room; inside = refl; few = omega arith }
@@ -207,7 +210,7 @@ module _ (most : ℕ) (s : Collection) (h : Seen) (r : Reached most s) where
   leads ok = move-cases (Leads most s h) s ok h (record {
     fail = λ e l t. over e;
     large = λ f l. large NoRoom f l;
-    first = λ f w. first f w;
+    first = λ f o. first f o;
     again = λ f l w. again f l w;
     more = λ at f y. more at f;
     skip = λ at f n. skip at f;
@@ -228,17 +231,29 @@ reached-more most more s l r = record {
 }
 
 -- a step keeps it, where a header that it judges calls for at most most chunks
-pub step-reached : (most : ℕ) (s : Collection) (k : Completion) → Reached most s
-    → (refusalOf s (k .ok) (length (k .bytes)) (k .copy) ≡ success → judgedBy (s .phase) ≡ true → fitsRoom (s .plan) (seenOf (s .plan) (k .bytes) .last) ≡ true
-    → calledFor (s .plan) (k .bytes) ≤ most)
-    → Reached most (stepBy s k .state)
-unfolding lookOf
-step-reached most s k r c =
-    same-or-not (refusalOf s (k .ok) (length (k .bytes)) (k .copy)) success
-    (λ e.
-    rw (taken-step s (k .ok) (k .bytes) (k .copy) e)
-    (leads most s (lookOf s (k .bytes)) r (k .ok) (λ j. let q = look-header (s .phase) (s .plan) (k .bytes) j in rw q (c e j))))
-    (λ e. rw (refused-step s (k .ok) (k .bytes) (k .copy) e) r)
+module _ (most : ℕ) (s : Collection) (k : Completion) (r : Reached most s)
+    (c : refusalOf s (k .ok) (length (k .bytes)) (k .copy) ≡ success → judgedBy (s .phase) ≡ true → calledFor (s .plan) (k .bytes) ≤ most) where
+  called : refusalOf s (k .ok) (length (k .bytes)) (k .copy) ≡ success → judgedBy (s .phase) ≡ true → Opens (s .plan) (seenOf (s .plan) (k .bytes))
+      → chunksOf (s .plan) (seenOf (s .plan) (k .bytes) .last) ≤ most
+  called e j o = omega (arith, opens-chunks (s .plan) (k .bytes) (r .plan) o, c e j)
+
+  calls : refusalOf s (k .ok) (length (k .bytes)) (k .copy) ≡ success → Calls most s (lookOf s (k .bytes))
+  unfolding lookOf
+  calls e = record {
+    first = λ f o.
+        let q = looks-planned s (k .ok) (k .bytes) (k .copy) e f in
+        let x = taken-as-checked (s .plan) (k .bytes) (r .plan) (subst TakenByPlan q o) in
+        rw (q, x .seen) (x .opens .fits, called e (rw f) (x .opens));
+    later = λ f w.
+        let q = look-closing (s .phase) (s .plan) (k .bytes) f in
+        rw q (called e (closing-is (s .phase) f .judged) (subst (Opens (s .plan)) q w));
+  }
+
+  pub step-reached : Reached most (stepBy s k .state)
+  step-reached =
+      same-or-not (refusalOf s (k .ok) (length (k .bytes)) (k .copy)) success
+      (λ e. rw (taken-step s (k .ok) (k .bytes) (k .copy) e) (leads most s (lookOf s (k .bytes)) r (calls e) (k .ok)))
+      (λ e. rw (refused-step s (k .ok) (k .bytes) (k .copy) e) r)
 
 -- ---- runs
 
@@ -261,7 +276,7 @@ run-reached most s [] r c = r
 run-reached most s (k ∷ ks) r c =
     let p = step-counts s (k .ok) (k .bytes) (k .copy) .plan in
     run-reached most (stepBy s k .state) ks
-    (step-reached most s k r (λ e j w.
+    (step-reached most s k r (λ e j.
     let a : mostChunks (s .plan) (k .bytes ∷ headersOf (stepBy s k .state) ks) ≤ most = rw (j, eq-eqb _ success e) at c in
     let l = larger-left (calledFor (s .plan) (k .bytes)) (mostChunks (s .plan) (headersOf (stepBy s k .state) ks)) in
     omega arith))
@@ -272,16 +287,33 @@ run-reached most s (k ∷ ks) r c =
     later true l = let r = larger-right (calledFor (s .plan) (k .bytes)) (mostChunks (s .plan) (headersOf (stepBy s k .state) ks)) in omega arith
     later false l = l
 
--- no header that fits the largest copy calls for more chunks than the house limit has blocks
-house-limit : (p : Plan) (last : List ℕ) → setupAnswer p ≡ success → fitsRoom p last ≡ true → chunksOf p last ≤ most4
-house-limit p last e w =
-    let l = plan-limits p e in
-    let f = chunks-few (p .chunk) (areaLast p last) (l .chunk-low) in
-    let b = area-limit p last e w in
+-- a header that is not bad keeps the rule of last blocks, and a bad one shows none
+last-limit : (da4s : Bool) (area : ℕ) (a : List ℕ) → LastRule da4s a → lastOf area a ≤ most4
+last-limit da4s area a r =
+    pick-cases (λ (x : ℕ). x ≤ most4) (eqb area 1) (λ e. omega (arith, r .one-two, r .two-three, r .three-most))
+    (λ e. pick-cases (λ (x : ℕ). x ≤ most4) (eqb area 2) (λ f. omega (arith, r .two-three, r .three-most))
+    (λ f. pick-cases (λ (x : ℕ). x ≤ most4) (eqb area 3) (λ g. omega (arith, r .three-most)) (λ g. r .four-most)))
+
+header-limit : (p : Plan) (d : List ℕ) → areaLast p (seenOf p d .last) ≤ most4
+unfolding seenOf checkOf noFields fieldsOk
+header-limit p d =
+    let good = faultless-header (p .page) (p .caps .da4s) d in
+    by-test (faultless (checkOf (p .page) (p .caps .da4s) d .fault))
+    (λ t.
+    let ok : fieldsOk (p .page) (p .caps .da4s) (fieldsOf (p .page) d) ≡ true = and-right (eqb (length d) block) _ (sym good ∙ t) in
+    rw t (last-limit (p .caps .da4s) (p .area) (lastAt d) (last-rule (p .caps .da4s) (lastAt d) (each _ ok 1))))
+    (λ t. let z = no-area (p .area) in rw t (omega arith))
+
+-- so no header calls for more chunks than the house limit has blocks
+called-limit : (p : Plan) (d : List ℕ) → setupAnswer p ≡ success → calledFor p d ≤ most4
+called-limit p d e =
+    let f = chunks-few (p .chunk) (areaLast p (seenOf p d .last)) (plan-limits p e .chunk-low) in
+    let l = header-limit p d in
+    let m = chunks-at-most p d in
     omega arith
 
 pub step-house : (s : Collection) (k : Completion) → Reached most4 s → Reached most4 (stepBy s k .state)
-step-house s k r = step-reached most4 s k r (λ e j w. house-limit (s .plan) (seenOf (s .plan) (k .bytes) .last) (r .plan) w)
+step-house s k r = step-reached most4 s k r (λ e j. called-limit (s .plan) (k .bytes) (r .plan))
 
 pub run-house : (s : Collection) (ks : List Completion) → Reached most4 s → Reached most4 (after s ks)
 unfolding after
@@ -407,31 +439,13 @@ ends p ks e l = by (endedBy (stateOf p ks .phase)) refl
         let o : setupOf p .state .count ≡ 1 = rw (setup-taken p e) in
         absurd (omega arith)
 
--- a header that is not bad keeps the rule of last blocks, and a bad one shows none
-last-limit : (da4s : Bool) (area : ℕ) (a : List ℕ) → LastRule da4s a → lastOf area a ≤ most4
-last-limit da4s area a r =
-    pick-cases (λ (x : ℕ). x ≤ most4) (eqb area 1) (λ e. omega (arith, r .one-two, r .two-three, r .three-most))
-    (λ e. pick-cases (λ (x : ℕ). x ≤ most4) (eqb area 2) (λ f. omega (arith, r .two-three, r .three-most))
-    (λ f. pick-cases (λ (x : ℕ). x ≤ most4) (eqb area 3) (λ g. omega (arith, r .three-most)) (λ g. r .four-most)))
-
-header-limit : (p : Plan) (d : List ℕ) → areaLast p (seenOf p d .last) ≤ most4
-unfolding seenOf checkOf noFields fieldsOk
-header-limit p d =
-    let good = faultless-header (p .page) (p .caps .da4s) d in
-    by-test (faultless (checkOf (p .page) (p .caps .da4s) d .fault))
-    (λ t.
-    let ok : fieldsOk (p .page) (p .caps .da4s) (fieldsOf (p .page) d) ≡ true = and-right (eqb (length d) block) _ (sym good ∙ t) in
-    rw t (last-limit (p .caps .da4s) (p .area) (lastAt d) (last-rule (p .caps .da4s) (lastAt d) (each _ ok 1))))
-    (λ t. let z = no-area (p .area) in rw t (omega arith))
-
 house-chunks : (p : Plan) (ds : List (List ℕ)) → setupAnswer p ≡ success → mostChunks p ds ≤ most4
 unfolding mostChunks
 house-chunks p [] e = omega arith
 house-chunks p (d ∷ ds) e =
-    let a = chunks-few (p .chunk) (areaLast p (seenOf p d .last)) (plan-limits p e .chunk-low) in
-    let l = header-limit p d in
+    let a = called-limit p d e in
     let b = house-chunks p ds e in
-    pick-cases (λ (x : ℕ). x ≤ most4) (leb (calledFor p d) (mostChunks p ds)) (λ t. b) (λ t. omega arith)
+    pick-cases (λ (x : ℕ). x ≤ most4) (leb (calledFor p d) (mostChunks p ds)) (λ t. b) (λ t. a)
 
 -- And C is 1,048,576 at most.
 pub chunks-limited : (p : Plan) (ks : List Completion) → setupAnswer p ≡ success → chunksIn p ks ≤ most4

@@ -24,8 +24,7 @@ use Rattle.plans.specs.Limits.{chunk-inside, chunk-full, chunk-short}
 use Rattle.plans.specs.Phases.{ackBy, endedBy, closing-is}
 use Rattle.plans.specs.Plans.{setupAnswer, areaLast, areaBytes, chunkBlocks, phaseAt}
 use Rattle.completions.specs.declared.Seen.{Seen}
-use Rattle.completions.specs.Completions.{zerosFrom, touched}
-use Rattle.completions.specs.Touched.{zeros-after, zeros-all}
+use Rattle.turns.specs.Touched.{zerosFrom, touched, zeros-after, zeros-all}
 use Rattle.judgement.specs.declared.Ending.{Ending}
 use Rattle.judgement.specs.declared.Ending.the-variants.{Success, NoRoom}
 use Rattle.judgement.specs.declared.Move.{Move}

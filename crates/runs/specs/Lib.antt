@@ -7,3 +7,4 @@ pub mod Held
 pub mod Stale
 pub mod Listing
 pub mod Matched
+pub mod Undisturbed

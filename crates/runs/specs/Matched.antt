@@ -15,11 +15,11 @@ use Rattle.pages.specs.Pages.{sameLast}
 use Rattle.plans.specs.declared.Plan.{Plan}
 use Rattle.plans.specs.declared.Phase.{Phase}
 use Rattle.plans.specs.declared.Phase.the-variants.{First, Chunk, Close, Ack, Ended}
-use Rattle.plans.specs.Phases.{judgedBy, closing-is}
+use Rattle.plans.specs.Phases.{judgedBy, closingBy, closing-is}
 use Rattle.plans.specs.Plans.{setupAnswer, areaLast, phaseAt}
 use Rattle.completions.specs.declared.Seen.{Seen}
 use Rattle.completions.specs.Completions.{seenOf}
-use Rattle.completions.specs.Looked.{look-header}
+use Rattle.completions.specs.Looked.{TakenByPlan, look-closing, taken-as-checked}
 use Rattle.judgement.specs.declared.Attempt.{Attempt}
 use Rattle.judgement.specs.declared.Ending.{Ending}
 use Rattle.judgement.specs.declared.Ending.the-variants.{NoRoom}
@@ -32,8 +32,8 @@ use Rattle.collection.specs.declared.Finish.{Finish}
 use Rattle.collection.specs.declared.Next.the-variants.{End as Ends}
 use Rattle.collection.specs.Collection.{refusalOf, lookOf, moveOf, setupOf}
 use Rattle.collection.specs.Copied.{not-sent, not-refusal, ending-of}
-use Rattle.collection.specs.Laws.{move-cases}
-use Rattle.collection.specs.Steps.{makes, setup-taken, refused-step, taken-step}
+use Rattle.collection.specs.Laws.{state-valid, not-refused, move-cases}
+use Rattle.collection.specs.Steps.{makes, setup-taken, refused-step, taken-step, looks-planned}
 use Rattle.runs.specs.Run.{Completion, stepBy, after, stateOf, headersOf}
 use Rattle.runs.specs.Counted.{plan-stays}
 
@@ -80,9 +80,15 @@ module _ (s : Collection) (k : Completion) (hs : List (List ℕ)) (i : At (s .ph
   abbrev heads : Bool → List (List ℕ)
   heads t = hs ++ pick (t && true) (k .bytes ∷ []) []
 
-  seen : judgedBy (s .phase) ≡ true → h ≡ seenOf (s .plan) (k .bytes)
+  closing-seen : closingBy (s .phase) ≡ true → h ≡ seenOf (s .plan) (k .bytes)
   unfolding lookOf
-  seen j = look-header (s .phase) (s .plan) (k .bytes) j
+  closing-seen f = look-closing (s .phase) (s .plan) (k .bytes) f
+
+  -- a first header that opens an attempt is seen as the check finds it
+  opening-seen : refusalOf s (k .ok) (length (k .bytes)) (k .copy) ≡ success → s .phase ≡ First → TakenByPlan h → h ≡ seenOf (s .plan) (k .bytes)
+  opening-seen r f o =
+      let q = looks-planned s (k .ok) (k .bytes) (k .copy) r f in
+      q ∙ taken-as-checked (s .plan) (k .bytes) (state-valid s (not-refused s (k .ok) (length (k .bytes)) (k .copy) r .state) .plan) (subst TakenByPlan q o) .seen
 
   in-phase : (f : Phase) → s .phase ≡ f → At f s hs
   in-phase f e = subst (λ (g : Phase). At g s hs) e i
@@ -96,7 +102,7 @@ module _ (s : Collection) (k : Completion) (hs : List (List ℕ)) (i : At (s .ph
       let x : Shown (s .plan) (s .attempt) hs = in-phase (Close false) f in
       let g = eqb-true (h .generation) (s .attempt .generation) (and-left _ (sameLast (h .last) (s .attempt .last)) m) in
       let l = and-right (eqb (h .generation) (s .attempt .generation)) _ m in
-      let e = seen (ap judgedBy f) in
+      let e = closing-seen (ap closingBy f) in
       subst (Paired (s .plan)) (same-heads (Close false) f)
       (record {
         before = x .before;
@@ -111,29 +117,29 @@ module _ (s : Collection) (k : Completion) (hs : List (List ℕ)) (i : At (s .ph
   abbrev After : Move → Type 0
   After m = At (makes s h m .state .phase) (makes s h m .state) (heads (judgedBy (s .phase)))
 
-  opens : (next : Bool) → judgedBy (s .phase) ≡ true → After (Open next)
+  opens : (next : Bool) → judgedBy (s .phase) ≡ true → h ≡ seenOf (s .plan) (k .bytes) → After (Open next)
   unfolding makes
-  opens next j =
+  opens next j e =
       at-chunks 1 (areaLast (s .plan) (h .last)) _ (heads (judgedBy (s .phase)))
       (record {
         before = hs;
         opening = k .bytes;
         is = ap heads j;
-        generation = ap (λ (x : Seen). x .generation) (seen j);
-        last = ap (λ (x : Seen). x .last) (seen j);
+        generation = ap (λ (x : Seen). x .generation) e;
+        last = ap (λ (x : Seen). x .last) e;
       })
 
   -- a chunk leaves the attempt's header the last one
   still-shown : (at : ℕ) → s .phase ≡ Chunk at → Shown (s .plan) (s .attempt) (heads (judgedBy (s .phase)))
   still-shown at f = subst (Shown (s .plan) (s .attempt)) (sym (append-nil hs) ∙ same-heads (Chunk at) f) (in-phase (Chunk at) f)
 
-  moved : After (moveOf s (k .ok) h)
+  moved : refusalOf s (k .ok) (length (k .bytes)) (k .copy) ≡ success → After (moveOf s (k .ok) h)
   unfolding makes
-  moved = move-cases After s (k .ok) h (record {
+  moved t = move-cases After s (k .ok) h (record {
     fail = λ e l t. tt;
     large = λ c l. tt;
-    first = λ f r. opens false (ap judgedBy f);
-    again = λ c l r. opens true (closing-is (s .phase) c .judged);
+    first = λ f o. opens false (ap judgedBy f) (opening-seen t f o);
+    again = λ c l r. opens true (closing-is (s .phase) c .judged) (closing-seen c);
     more = λ at f y. at-chunks _ _ _ _ (still-shown at f);
     skip = λ at f n. still-shown at f;
     acknowledge = λ f m p. pairs f m;
@@ -145,7 +151,7 @@ module _ (s : Collection) (k : Completion) (hs : List (List ℕ)) (i : At (s .ph
   step-at : At (stepBy s k .state .phase) (stepBy s k .state) (hs ++ judged s k)
   step-at =
       same-or-not (refusalOf s (k .ok) (length (k .bytes)) (k .copy)) success
-      (λ r. rw (taken-step s (k .ok) (k .bytes) (k .copy) r, r) moved)
+      (λ r. rw (taken-step s (k .ok) (k .bytes) (k .copy) r, r) (moved r))
       (λ r. rw (refused-step s (k .ok) (k .bytes) (k .copy) r, ne-eqb _ success r) (unjudged (judgedBy (s .phase))))
     where
       unjudged : (t : Bool) → At (s .phase) s (hs ++ pick (t && false) (k .bytes ∷ []) [])

@@ -1,6 +1,6 @@
 -- A run: setup, and then completions, each of them any success or refusal with any data, and with a lent copy of any length.
 -- Assumes nothing.
-use Prim.Native.Nat.{ℕ, _+_, _-_, _/_}
+use Prim.Native.Nat.{ℕ, _+_}
 use mathlib.Core.List.{List, [], _∷_, _++_}
 use mathlib.Core.Bool.{Bool, _&&_}
 use lib.ListN.{length}
@@ -11,8 +11,7 @@ use Rattle.pages.specs.Pages.{controllerPage}
 use Rattle.words.specs.declared.Words.{Words}
 use Rattle.plans.specs.declared.Plan.{Plan}
 use Rattle.plans.specs.Phases.{judgedBy}
-use Rattle.plans.specs.Plans.{areaLast}
-use Rattle.completions.specs.Completions.{seenOf}
+use Rattle.completions.specs.Plan.{planBy}
 use Rattle.collection.specs.Collection.{setupOf, stepOf, refusalOf, answerOf}
 use Rattle.collection.specs.declared.Collection.{Collection}
 use Rattle.collection.specs.declared.Next.{Next}
@@ -51,17 +50,9 @@ stateOf p ks = after (setupOf p .state) ks
 abbrev pub recordOf : Plan → List Completion → List Words
 recordOf p ks = given (setupOf p .next) ++ play (setupOf p .state) ks
 
--- the chunks from a block on: ⌈(B + 1 - at) / c⌉
-abbrev pub chunksFrom : ℕ → ℕ → ℕ → ℕ
-chunksFrom c at b = (b + c - at) / c
-
--- the chunks that a header calls for: ⌈B / c⌉
-abbrev pub chunksOf : Plan → List ℕ → ℕ
-chunksOf p last = chunksFrom (p .chunk) 1 (areaLast p last)
-
--- the chunks that a header's data calls for, by the wanted area's last block in it; none where the header is bad
+-- the chunks that a header calls for: those of the plan from it, which are none where it is refused
 abbrev pub calledFor : Plan → List ℕ → ℕ
-calledFor p d = chunksOf p (seenOf p d .last)
+calledFor p d = planBy p d .chunks
 
 -- the most that any of these headers calls for
 unfoldable pub mostChunks : Plan → List (List ℕ) → ℕ

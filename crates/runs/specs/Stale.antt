@@ -12,10 +12,12 @@ use Rattle.pages.specs.Pages.{hostPage, lastOk, sameLast}
 use Rattle.header.specs.Header.{fieldFault, faultOf, checkOf}
 use Rattle.plans.specs.declared.Plan.{Plan}
 use Rattle.plans.specs.Plans.{setupAnswer, fitsRoom, chunkBlocks, withinBy, phaseAt}
-use Rattle.completions.specs.Completions.{generationOf, seenOf, lookBy, touched}
+use Rattle.completions.specs.Plan.{answerTo, plannedBy, planOf}
+use Rattle.completions.specs.Completions.{generationOf, plannedSeen, seenOf, lookBy}
 use Rattle.judgement.specs.declared.Ending.the-variants.{Success}
 use Rattle.judgement.specs.Judgement.{testsOf, firstOrder, matchOrder, laterOrder, judgeBy}
 use Rattle.turns.specs.Turns.{turnOf}
+use Rattle.turns.specs.Touched.{touched}
 use Rattle.collection.specs.Collection.{expectedOf, lookOf, validState, completionFits, refusalOf, moveOf, turnBy, actOf, decideOf, setupOf, stepOf, copyAfter}
 use Rattle.runs.specs.Held.{Reply, heldAfter, heldOf}
 
@@ -57,5 +59,5 @@ replies =
 pub stale : (heldOf plan (replicate 1024 1) replies .copy ≡ filled 9 ++ zeros 512)
     × (heldOf plan (replicate 1024 1) replies .attempts ≡ filled 9 ∷ (filled 7 ++ filled 8) ∷ [])
     × (heldOf plan (replicate 1024 1) replies .endings ≡ record { ending = Success false; count = 6 } ∷ [])
-unfolding heldAfter stepOf copyAfter setupOf decideOf actOf turnBy turnOf moveOf refusalOf completionFits validState expectedOf lookOf lookBy seenOf generationOf touched testsOf firstOrder matchOrder laterOrder judgeBy setupAnswer fitsRoom chunkBlocks withinBy phaseAt checkOf faultOf fieldFault lastOk sameLast holds putAt
+unfolding heldAfter stepOf copyAfter setupOf decideOf actOf turnBy turnOf moveOf refusalOf completionFits validState expectedOf lookOf lookBy plannedSeen planOf plannedBy answerTo seenOf generationOf touched testsOf firstOrder matchOrder laterOrder judgeBy setupAnswer fitsRoom chunkBlocks withinBy phaseAt checkOf faultOf fieldFault lastOk sameLast holds putAt
 stale = (refl, refl, refl)

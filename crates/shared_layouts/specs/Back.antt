@@ -1,23 +1,16 @@
--- Capabilities read back to what they were, and a byte of five bits is the byte of the capabilities that it says. The puts that write a
--- header's fields come to its bytes.
+-- Capabilities read back to what they were, and a byte of five bits is the byte of the capabilities that it says.
 -- Assumes nothing.
 use Prim.Native.Nat.{ℕ, zero, suc, _+_, _*_, _/_, _%_, _≤_, _<_}
-use mathlib.Core.Path.{_≡_, refl, ap, _∙_}
-use mathlib.Core.List.{List, _++_}
+use mathlib.Core.Path.{_≡_, refl}
 use mathlib.Core.Bool.{Bool, true, false}
 use native.Mathlib.Omega.{arith}
 use native.Mathlib.Nat.{mod-eq-of-lt, div-div-eq-div-mul}
-use lib.ListN.{length}
 use lib.Dec.{leb, eqb}
 use borrow.Author.Tests.{le-leb, leb-true, eqb-true, eqb-false}
 use Rattle.choices.specs.Choice.{pick, one}
 use Rattle.choices.specs.Tests.{by-test}
-use Rattle.copies.specs.Parts.{zeros, putAt, put-end}
-use Rattle.littleendian.specs.Numbers.{bytesOf, foursOf}
-use Rattle.littleendian.specs.Puts.{then}
 use Rattle.pages.specs.declared.Caps.{Caps}
-use Rattle.header.specs.declared.Checked.{Checked}
-use Rattle.shared_layouts.specs.Layouts.{mostCaps, capsByte, capBit, capsOf, fieldsMarks, fieldsFront, fieldsBytes}
+use Rattle.shared_layouts.specs.Layouts.{mostCaps, capsByte, capBit, capsOf}
 
 pub one-most : (t : Bool) → one t ≤ 1
 one-most true = omega arith
@@ -100,19 +93,3 @@ pub one-kept : (b : ℕ) → leb b 1 ≡ true → one (eqb b 1) ≡ b
 one-kept zero e = refl
 one-kept (suc zero) e = refl
 one-kept (suc (suc n)) e = let h = leb-true (suc (suc n)) 1 e in absurd (omega arith)
-
-fields-front : (page : ℕ) (x : Checked) {m p q : List ℕ} → m ≡ putAt (zeros 156) 0 (fieldsMarks page x)
-    → p ≡ putAt m 8 (bytesOf 4 (x .fields .oui)) → q ≡ putAt p 12 (foursOf (x .fields .last))
-    → q ≡ fieldsFront page x ++ zeros 128
-unfolding putAt
-fields-front page x e0 e1 e2 = then 12 (foursOf (x .fields .last)) (then 8 (bytesOf 4 (x .fields .oui)) e0 e1) e2
-
--- what a check answers
-pub fields-is : (page : ℕ) (x : Checked) {k m p q r : List ℕ} → length (x .fields .reason) ≡ 128 → k ≡ fieldsMarks page x → m ≡ putAt (zeros 156) 0 k
-    → p ≡ putAt m 8 (bytesOf 4 (x .fields .oui)) → q ≡ putAt p 12 (foursOf (x .fields .last)) → r ≡ putAt q 28 (x .fields .reason)
-    → r ≡ fieldsBytes page x
-unfolding fieldsBytes
-fields-is page x l k e0 e1 e2 e3 =
-    e3
-    ∙ ap (λ (y : List ℕ). putAt y 28 (x .fields .reason)) (fields-front page x (e0 ∙ ap (putAt (zeros 156) 0) k) e1 e2)
-    ∙ put-end (fieldsFront page x ++ zeros 128) (x .fields .reason) 28 (omega arith)

@@ -1,22 +1,14 @@
--- A header's fault across the boundary: its number is its place in the order of the check, either reads back to the other, and struct bumbazeel_fields holds the number
--- with the byte where the field starts.
+-- A header's fault across the boundary: its number is its place in the order of the check, and either reads back to the other.
 -- Assumes nothing.
-use Prim.Native.Nat.{ℕ, _≤_}
+use Prim.Native.Nat.{ℕ}
 use mathlib.Core.Path.{_≡_, refl}
 use mathlib.Core.List.{List, [], _∷_, map}
 use mathlib.Core.Bool.{Bool}
-use native.Mathlib.Omega.{arith}
-use lib.ListN.{getD}
 use lib.Dec.{eqb}
-use Rattle.choices.specs.Choice.{pick-cases}
-use Rattle.littleendian.specs.Numbers.{valueAt}
-use Rattle.littleendian.specs.Back.{value-back}
-use Rattle.pages.specs.Pages.{hostPage}
 use Rattle.header.specs.declared.Fault.{Fault}
 use Rattle.header.specs.declared.Fault.the-variants.{None, Length, Identifier, Area2, Area3, Area4, Scope, Available, Empty}
-use Rattle.header.specs.declared.Checked.{Checked}
-use Rattle.header.specs.Header.{faultless, byteOf, headerFaults}
-use Rattle.shared_layouts.specs.Layouts.{faultNumber, faultBy, fieldsBytes}
+use Rattle.header.specs.Header.{faultless, headerFaults}
+use Rattle.shared_layouts.specs.Layouts.{faultNumber, faultBy}
 
 -- the numbers follow the order of the check
 pub numbered : (page : ℕ) (da4s : Bool) (h : List ℕ)
@@ -52,24 +44,3 @@ fault-back Empty = refl
 pub numbers-back : map (λ (n : ℕ). faultNumber (faultBy n)) (0 ∷ 1 ∷ 2 ∷ 3 ∷ 4 ∷ 5 ∷ 6 ∷ 7 ∷ 8 ∷ []) ≡ 0 ∷ 1 ∷ 2 ∷ 3 ∷ 4 ∷ 5 ∷ 6 ∷ 7 ∷ 8 ∷ []
 unfolding faultBy
 numbers-back = refl
-
--- every byte fits two bytes
-byte-small : (page : ℕ) (x : Fault) → byteOf page x ≤ 382
-byte-small page None = omega arith
-byte-small page Length = omega arith
-byte-small page Identifier = omega arith
-byte-small page Area2 = omega arith
-byte-small page Area3 = omega arith
-byte-small page Area4 = omega arith
-byte-small page Scope = pick-cases (λ (n : ℕ). n ≤ 382) (eqb page hostPage) (λ e. omega arith) (λ e. omega arith)
-byte-small page Available = omega arith
-byte-small page Empty = omega arith
-
--- `bad_field` and `bad_byte` of what a check answers
-pub told-field : (page : ℕ) (x : Checked) → getD (fieldsBytes page x) 5 0 ≡ faultNumber (x .fault)
-unfolding fieldsBytes
-told-field page x = refl
-
-pub told-byte : (page : ℕ) (x : Checked) → valueAt 2 6 (fieldsBytes page x) ≡ byteOf page (x .fault)
-unfolding fieldsBytes
-told-byte page x = value-back 2 (byteOf page (x .fault)) (omega (arith, byte-small page (x .fault)))

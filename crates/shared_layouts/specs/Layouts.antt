@@ -1,17 +1,13 @@
--- What the structs of include/bumbazeel.h on both sides are made of, and the struct of a header's fields (156 bytes). Numbers are
--- little-endian, and a yes or no is 1 or 0.
+-- What the structs of include/bumbazeel.h are made of. A yes or no is 1 or 0.
 -- Assumes nothing.
 use Prim.Native.Nat.{ℕ, _+_, _/_, _%_}
-use mathlib.Core.List.{List, [], _∷_, _++_}
+use mathlib.Core.List.{[], _∷_}
 use mathlib.Core.Bool.{Bool, _&&_}
 use lib.Dec.{leb, eqb}
 use Rattle.choices.specs.Choice.{pick, firstThat}
-use Rattle.littleendian.specs.Numbers.{bytesOf, foursOf}
 use Rattle.pages.specs.declared.Caps.{Caps}
 use Rattle.header.specs.declared.Fault.{Fault}
 use Rattle.header.specs.declared.Fault.the-variants.{None, Length, Identifier, Area2, Area3, Area4, Scope, Available, Empty}
-use Rattle.header.specs.declared.Checked.{Checked}
-use Rattle.header.specs.Header.{byteOf}
 
 -- ---- yes or no, and capabilities
 
@@ -31,7 +27,7 @@ capBit b d = leb b mostCaps && eqb (d % 2) 1
 unfoldable pub capsOf : ℕ → Caps
 capsOf b = record { extended = capBit b b; telemetry = capBit b (b / 2); da4s = capBit b (b / 4); etdas = capBit b (b / 8); mcdas = capBit b (b / 16) }
 
--- ---- struct bumbazeel_fields
+-- ---- what is at fault in a header
 
 -- the number of what is at fault: its place in the order of the check
 abbrev pub faultNumber : Fault → ℕ
@@ -59,25 +55,3 @@ faultBy n =
     ∷ (eqb n 8, Empty)
     ∷ [])
     None
-
--- of a check for this page, the first eight bytes
-abbrev pub fieldsMarks : ℕ → Checked → List ℕ
-fieldsMarks page x =
-    x .fields .page
-    ∷ x .fields .scope
-    ∷ x .fields .hostgeneration
-    ∷ x .fields .tcda
-    ∷ x .fields .controllergeneration
-    ∷ faultNumber (x .fault)
-    ∷ bytesOf 2 (byteOf page (x .fault))  -- 6
-
--- what stands before the reason
-abbrev pub fieldsFront : ℕ → Checked → List ℕ
-fieldsFront page x =
-    fieldsMarks page x
-    ++ bytesOf 4 (x .fields .oui)  -- 8
-    ++ foursOf (x .fields .last)  -- 12
-
--- what a check for this page answers, as 156 bytes: the fields, and what is at fault with the byte where it starts
-unfoldable pub fieldsBytes : ℕ → Checked → List ℕ
-fieldsBytes page x = fieldsFront page x ++ x .fields .reason

@@ -1,16 +1,14 @@
-// What the structs of include/bumbazeel.h on both sides are made of: a yes or no, capabilities and what is at fault in a header as bytes; and the
-// struct of a header's fields.
+// What the structs of include/bumbazeel.h are made of: a yes or no, capabilities and what is at fault in a header, as bytes.
 //
-// It rests on choices, copies, littleendian, pages and header. It promises that each is written to exactly the bytes of
-// specs/Layouts.antt, and that capabilities read back to what they were and a byte of five bits to itself (specs/Back.antt), and so does a fault, and a
-// number up to 8, which is the fault's place in the order of the check (specs/Faults.antt).
-use header::Checked;
+// It rests on choices, pages and header. It promises that each is the byte of specs/Layouts.antt, and that capabilities read back to what they were and a byte of
+// five bits to itself (specs/Back.antt), and so does a fault, and a number up to 8, which is the fault's place in the order of the check
+// (specs/Faults.antt).
 use header::Fault;
 use pages::Caps;
 ghost use mathlib.Core.Path.{_≡_};
 ghost use Prim.Native.Nat.{_≤_};
 ghost use Rattle.choices.specs.Choice.{pick};
-ghost use Rattle.shared_layouts.specs.Layouts.{capsByte, capsOf, faultNumber, faultBy, fieldsMarks, fieldsBytes};
+ghost use Rattle.shared_layouts.specs.Layouts.{capsByte, capsOf, faultNumber, faultBy};
 
 // The greatest byte of capabilities.
 pub const MOST_CAPS: u8 = 31;
@@ -75,38 +73,4 @@ pub fn fault_by(n: u8) -> Fault
         8 => Fault::Empty,
         _ => Fault::None,
     }
-}
-
-fn fields_marks(page: u8, x: Checked) -> [u8; 8]
-    ensures { λ b. ⌜ b ≡ fieldsMarks page x ⌝ }
-{
-    let fault = x.fault;
-    let f = x.fields;
-    let number = fault_number(fault);
-    let byte = header::byte_of(page, fault);
-    [
-        f.page,
-        f.scope,
-        f.hostgeneration,
-        f.tcda,
-        f.controllergeneration,
-        number,
-        (byte % 256) as u8,
-        (byte / 256 % 256) as u8,
-    ]
-}
-
-// What a check for this page answers, as bytes.
-pub fn write_fields(page: u8, x: Checked) -> [u8; 156]
-    ensures { λ b. ⌜ b ≡ fieldsBytes page x ⌝ }
-{
-    let f = x.fields;
-    let last = f.last;
-    let reason = f.reason;
-    let mut out = [0u8; 156];
-    copies::put(&fields_marks(page, x), &mut out, 0);
-    littleendian::put4(&mut out, 8, f.oui);
-    littleendian::put_fours(&mut out, 12, last);
-    littleendian::put_reason(&mut out, 28, reason);
-    out
 }

@@ -79,7 +79,7 @@ module _ (D : Source) (p : Plan) (K : Keeps D p) (s : Stand D) (o : Done (D .Sta
         house = step-house (s .collection) k (c .house);
         reached =
             step-reached more (s .collection) k (reached-more (mostChunks p (s .headers)) more (s .collection) (most-grows (judgedBy (s .collection .phase))) (c .reached))
-            (λ e j w. rw (c .plan, j) (larger-left (calledFor p (dataOf o)) (mostChunks p (s .headers))));
+            (λ e j. rw (c .plan, j) (larger-left (calledFor p (dataOf o)) (mostChunks p (s .headers))));
         counted = omega (arith, n .count, c .counted);
         tries = t;
       }

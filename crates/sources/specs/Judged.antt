@@ -23,10 +23,9 @@ use Rattle.completions.specs.declared.Seen.{Seen}
 use Rattle.plans.specs.Phases.{judgedBy, closingBy, refusedBy, judged-going}
 use Rattle.plans.specs.Plans.{areaLast, areaBytes, fitsRoom}
 use Rattle.plans.specs.Awaited.{header-block}
-use Rattle.completions.specs.Completions.{showsNone}
-use Rattle.completions.specs.Looked.{look-header}
+use Rattle.completions.specs.Completions.{seenOf, showsNone}
 use Rattle.judgement.specs.Judgement.{matches}
-use Rattle.collection.specs.Collection.{awaitedOf, expectedOf, lookOf, refusalOf, numberIn, sends, ends}
+use Rattle.collection.specs.Collection.{awaitedOf, expectedOf, refusalOf, numberIn, sends, ends}
 use Rattle.collection.specs.Steps.{inPhase, openedBy, endedIn, first-none, first-large, first-opens, later-none, later-done, later-acknowledges, later-large, later-opens}
 use Rattle.judgement.specs.declared.Ending.the-variants.{Success, NoRoom, Withdrawn, Nothing}
 use Rattle.collection.specs.declared.Collection.{Collection}
@@ -56,9 +55,12 @@ module _ (D : Source) (p : Plan) (K : Keeps D p) (s : Stand D) (o : Done (D .Sta
   is-data : dataOf o ≡ o .bytes
   is-data = rw is-fine
 
-  look : lookOf state (dataOf o) ≡ h
-  unfolding lookOf
-  look = look-header (state .phase) (state .plan) (dataOf o) f ∙ rw (is-data, c .plan) (hdr .seen)
+  -- what the check finds in it
+  abbrev found : Seen
+  found = seenOf (state .plan) (dataOf o)
+
+  look : found ≡ h
+  look = rw (is-data, c .plan) (hdr .seen)
 
   taken : refusalOf state (fine o) (length (dataOf o)) (length (s .copy)) ≡ success
   unfolding expectedOf
@@ -66,13 +68,13 @@ module _ (D : Source) (p : Plan) (K : Keeps D p) (s : Stand D) (o : Done (D .Sta
       takes state (fine o) (dataOf o) (length (s .copy)) (c .house) (judged-going (state .phase) f) (c .size ∙ ap (λ (q : Plan). q .room) (sym (c .plan)))
       (rw is-data (rw is-fine (hdr .long ∙ sym (header-block (state .phase) (state .plan) (state .attempt .last) f))))
 
-  sound : faultless (lookOf state (dataOf o) .fault) ≡ true
+  sound : faultless (found .fault) ≡ true
   sound = ap (λ (x : Seen). faultless (x .fault)) look ∙ K .sound (o .source) good
 
-  none-is : (t : Bool) → showsNone p h ≡ t → showsNone (state .plan) (lookOf state (dataOf o)) ≡ t
+  none-is : (t : Bool) → showsNone p h ≡ t → showsNone (state .plan) found ≡ t
   none-is t e = rw (look, c .plan) e
 
-  fits-is : (t : Bool) → fitsRoom p (h .last) ≡ t → fitsRoom (state .plan) (lookOf state (dataOf o) .last) ≡ t
+  fits-is : (t : Bool) → fitsRoom p (h .last) ≡ t → fitsRoom (state .plan) (found .last) ≡ t
   fits-is t e = rw (look, c .plan) e
 
   -- the stand after it, whose last header this is
@@ -172,7 +174,7 @@ module _ (D : Source) (p : Plan) (K : Keeps D p) (s : Stand D) (o : Done (D .Sta
         (withdrew refl refl n (omega (arith, op .begun, length-append (s .sent) []))))
 
     module _ (n : showsNone p h ≡ false) where
-      match-is : (t : Bool) → matches (state .attempt) h ≡ t → matches (state .attempt) (lookOf state (dataOf o)) ≡ t
+      match-is : (t : Bool) → matches (state .attempt) h ≡ t → matches (state .attempt) found ≡ t
       match-is t e = rw look e
 
       -- with neither a capture nor a drop it matches

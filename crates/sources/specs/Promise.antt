@@ -47,7 +47,7 @@ module _ (D : Source) (p : Plan) (K : Keeps D p) where
 
   -- of a run with k captures and drops at most
   pub record Promise (k : ℕ) (s : Stand D) : Type 0 where
-    -- the count is the length of the record, and within that number, C being the most chunks that a header of the run calls for, and also with C at
+    -- the count is the length of the record, and within that number, C being the greatest number of chunks planned from a header of the run, and also with C at
     -- the house limit
     pub counted : s .collection .count ≡ length (s .sent)
     pub bounded : s .collection .count ≤ mostCommands p k (mostChunks p (s .headers))

@@ -1,5 +1,6 @@
-// The rows and vectors of document 01 that concern the words, the pages, the headers and the classes, and document 02's order of faults in a header (Q-2), run by
-// the compiled code. The file stdout beside src/ has what the papers say of each.
+// The rows and vectors of document 01 that concern the words, the pages, the headers and the classes, and document 02's order of faults in a header (Q-2) and of a
+// plan's refusals (Q-4), run by the compiled code. The file stdout beside src/ has what the papers say of each.
+use completions::Planned;
 use header::Fields;
 use libc::STDOUT_FILENO;
 use pages::Caps;
@@ -165,13 +166,33 @@ fn fields(f: Fields) {
     newline();
 }
 
+// A plan from a header, of the greatest area that there is, a block a command, with the largest room.
+fn plan_of(page: u8, da4s: bool, h: &[u8]) -> Planned {
+    let caps = Caps {
+        extended: true,
+        telemetry: true,
+        da4s,
+        etdas: da4s,
+        mcdas: false,
+    };
+    completions::plan(
+        page,
+        choices::pick_u8(da4s, 4, 3),
+        caps,
+        1,
+        plans::MOST_ROOM,
+        h,
+    )
+}
+
 fn check(page: u8, da4s: bool, h: &[u8]) {
-    let k = header::check(page, da4s, h);
-    let fault = k.fault;
-    let f = k.fields;
-    decimal(header::answer_of(fault) as u64);
+    let x = plan_of(page, da4s, h);
+    let fault = x.fault;
+    let f = x.fields;
+    decimal(x.answer as u64);
     byte(b" field ", shared_layouts::fault_number(fault));
     number(b" at ", header::byte_of(page, fault) as usize);
+    number(b" chunks ", x.chunks as usize);
     fields(f);
 }
 
@@ -318,16 +339,16 @@ fn good_headers() {
     say(b"headers read back: 07h, 08h\n");
     check_whole(0x07, true, &sample(0x07));
     check_whole(0x08, true, &sample(0x08));
-    say(
-        b"good: 07h with scope 0, 08h with byte 380 at FFh, 07h with TCDA 1 and a3 = 0, 08h with TCDA 0 and last blocks\n",
-    );
+    say(b"good: 07h with scope 0, 08h with byte 380 at FFh, 07h with TCDA 1 and a3 = 0\n");
     check_with(0x07, 380, 0);
     check_with(0x08, 380, 255);
     let mut empty = [0u8; 512];
     empty[0] = 0x07;
     empty[382] = 1;
     check_whole(0x07, false, &empty);
+    say(b"nothing: 08h with TCDA 0 and last blocks, and with none\n");
     check_with(0x08, 382, 0);
+    check_bare(0x08, true, 382, 0);
 }
 
 // A header with no block, but for one byte.
@@ -342,7 +363,7 @@ fn check_bare(page: u8, da4s: bool, at: usize, byte: u8) {
 
 fn bad_lengths() {
     let host = sample(0x07);
-    say(b"bad: lengths 0, 511 and 513; 513 asked for as 08h, and as 09h\n");
+    say(b"bad: lengths 0, 511 and 513; 513 asked for as 08h, and as 09h, which no plan has\n");
     check_cut(0x07, &host, 0);
     check_cut(0x07, &host, 511);
     check_cut(0x07, &host, 513);
@@ -367,7 +388,7 @@ fn bad_areas() {
 fn bad_headers() {
     let host = sample(0x07);
     say(
-        b"bad: identifier, a page asked for that is none, scope 3 of 07h and of 08h, TCDA 2 of 07h and of 08h\n",
+        b"bad: identifier; a page asked for that is none; scope 3 of 07h and of 08h, TCDA 2 of 07h and of 08h\n",
     );
     check_whole(0x08, true, &host);
     check_bare(0x09, true, 0, 0x09);
@@ -414,8 +435,8 @@ fn spoilt(page: u8, da4s: bool, i: u8, j: u8) -> [u8; 512] {
 // The number of what is found at fault in the first bytes of a header.
 fn found_in(page: u8, da4s: bool, h: &[u8], bytes: usize) {
     if bytes <= h.len() {
-        let k = header::check(page, da4s, &h[0..bytes]);
-        let fault = k.fault;
+        let x = plan_of(page, da4s, &h[0..bytes]);
+        let fault = x.fault;
         byte(b" ", shared_layouts::fault_number(fault));
     }
 }
@@ -469,6 +490,61 @@ fn faults() {
     pairs(b"08h without, the length 511", 0x08, false, 511);
 }
 
+// The answer to a plan from the sample header (2,2,5,9), with this TCDA and byte 381, the scope of 08h and the generation of 07h, and the number of chunks.
+fn plan(page: u8, area: u8, chunk: u32, room: usize, etdas: bool, tcda: u8, scope: u8) {
+    let mut h = sample(page);
+    h[382] = tcda;
+    h[381] = scope;
+    let caps = Caps {
+        extended: true,
+        telemetry: true,
+        da4s: true,
+        etdas,
+        mcdas: false,
+    };
+    let x = completions::plan(page, area, caps, chunk, room, &h);
+    decimal(x.answer as u64);
+    number(b" chunks ", x.chunks as usize);
+    newline();
+}
+
+fn chunk_lists() {
+    say(b"plans of (2,2,5,9): area 4 with c = 1, 2, 3, 4, 5, 8, 9, 10, 8192\n");
+    plan(0x07, 4, 1, 4608, true, 1, 1);
+    plan(0x07, 4, 2, 4608, true, 1, 1);
+    plan(0x08, 4, 3, 4608, true, 1, 1);
+    plan(0x08, 4, 4, 4608, true, 1, 1);
+    plan(0x07, 4, 5, 4608, true, 1, 1);
+    plan(0x07, 4, 8, 4608, true, 1, 1);
+    plan(0x08, 4, 9, 4608, true, 1, 1);
+    plan(0x08, 4, 10, 4608, true, 1, 1);
+    plan(0x08, 4, 8192, 4608, true, 1, 1);
+    say(b"areas 1, 2 and 3 with c = 2, without ETDAS\n");
+    plan(0x07, 1, 2, 4608, false, 1, 1);
+    plan(0x08, 2, 2, 4608, false, 1, 1);
+    plan(0x07, 3, 2, 4608, false, 1, 1);
+}
+
+fn plan_refusals() {
+    say(
+        b"room for one block less; 08h with TCDA 0 and room for one block less; scope 3, with that too\n",
+    );
+    plan(0x08, 4, 1, 4096, true, 1, 1);
+    plan(0x08, 4, 1, 4096, true, 0, 1);
+    plan(0x08, 4, 1, 4096, true, 0, 3);
+    say(
+        b"area 4 without ETDAS, with that too; c = 0, 8193, area 0, 5, room 511, over the largest, page 09h, with that too\n",
+    );
+    plan(0x08, 4, 1, 4096, false, 0, 3);
+    plan(0x08, 4, 0, 4096, false, 0, 3);
+    plan(0x08, 4, 8193, 4096, false, 0, 3);
+    plan(0x08, 0, 1, 4096, false, 0, 3);
+    plan(0x08, 5, 1, 4096, false, 0, 3);
+    plan(0x08, 4, 1, 511, false, 0, 3);
+    plan(0x08, 4, 1, 536871424, false, 0, 3);
+    plan(0x09, 4, 1, 4096, false, 0, 3);
+}
+
 fn main() {
     identifiers();
     statuses();
@@ -482,4 +558,6 @@ fn main() {
     bad_headers();
     bad_areas();
     faults();
+    chunk_lists();
+    plan_refusals();
 }

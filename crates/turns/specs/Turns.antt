@@ -13,8 +13,8 @@ use Rattle.plans.specs.declared.Phase.{Phase}
 use Rattle.plans.specs.declared.Phase.the-variants.{Close, Ack, Ended}
 use Rattle.plans.specs.Plans.{areaLast, areaBytes, phaseAt}
 use Rattle.completions.specs.declared.Seen.{Seen}
-use Rattle.completions.specs.declared.Touch.{Touch}
-use Rattle.completions.specs.declared.Touch.the-variants.{Keep, Place, Tail, All}
+use Rattle.turns.specs.declared.Touch.{Touch}
+use Rattle.turns.specs.declared.Touch.the-variants.{Keep, Place, Tail, All}
 use Rattle.judgement.specs.declared.Attempt.{Attempt}
 use Rattle.judgement.specs.declared.Ending.{Ending}
 use Rattle.judgement.specs.declared.Move.{Move}

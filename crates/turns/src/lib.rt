@@ -1,9 +1,8 @@
 // What a step refuses, and what a move makes of a collection: the phase and the header that follow it, and what happens to the copy.
 //
-// It rests on choices, answers, pages, plans, completions and judgement. It promises the first refusal of any step (specs/Refusals.antt), and the turn that any
-// move in any attempt makes (specs/Turns.antt).
+// It rests on choices, copies, answers, pages, plans, completions and judgement. It promises the first refusal of any step (specs/Refusals.antt), the turn that
+// any move in any attempt makes (specs/Turns.antt), and every byte of a copy that something happens to (specs/Touched.antt).
 use completions::Seen;
-use completions::Touch;
 use judgement::Attempt;
 use judgement::Ending;
 use judgement::Move;
@@ -11,13 +10,21 @@ use plans::Phase;
 use plans::Plan;
 ghost use mathlib.Core.Path.{_≡_};
 ghost use Prim.Native.Nat.{_-_, _*_};
-ghost use Rattle.choices.specs.Choice.{pick};
 ghost use Rattle.pages.specs.Pages.{block};
 ghost use Rattle.turns.specs.Refusals.{mostCount, firstRefusal, refusalBy};
 ghost use Rattle.turns.specs.Turns.{openingOf, followingOf, leftBy, turned, turnOf};
+ghost use Rattle.turns.specs.Touched.{zerosFrom, touched};
 
 // The most commands of one attempt: the chunks of the largest area, a block each, and the closing header.
 const MOST_OF_ATTEMPT: u64 = 1048577;
+
+// What happens to the copy: nothing, the data goes to a place, zeros from a place on, zeros everywhere.
+pub enum Touch {
+    Keep,
+    Place(usize),
+    Tail(usize),
+    All,
+}
 
 // What is known of a completion before it is looked at: that it is a success, and how long its data and the lent copy are.
 pub struct Offered {
@@ -142,5 +149,27 @@ pub fn turn_of(p: Plan, a: Attempt, h: Seen, m: Move) -> Turn
         ),
         Move::Skip => turn_to(Phase::Close(true), false, g, held, Touch::Keep),
         Move::Acknowledge => turn_to(Phase::Ack, false, g, held, Touch::Keep),
+    }
+}
+
+// Zeros from a place on; where the copy ends before it, the copy stays as it is.
+fn zeros_from(copy: &mut [u8], place: usize)
+    ensures { λ _. ⌜ now (copy .exit) ≡ zerosFrom (now (copy .entry)) place ⌝ }
+{
+    if place <= copy.len() {
+        let left = copy.len() - place;
+        copies::put_zeros(left, copy, place);
+    }
+}
+
+// What happens to the copy happens; no byte changes but those that it names.
+pub fn settle(touch: Touch, data: &[u8], copy: &mut [u8])
+    ensures { λ _. ⌜ now (copy .exit) ≡ touched touch (now («data» .entry)) (now (copy .entry)) ⌝ }
+{
+    match touch {
+        Touch::Keep => (),
+        Touch::Place(place) => copies::put(data, copy, place),
+        Touch::Tail(place) => zeros_from(copy, place),
+        Touch::All => zeros_from(copy, 0),
     }
 }

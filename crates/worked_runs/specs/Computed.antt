@@ -16,11 +16,13 @@ use Rattle.verdicts.specs.Verdicts.{candidateOk, fieldBad, lastAfter, commandAn
 use Rattle.plans.specs.Plans.{chunkBlocks, setupAnswer, fitsRoom, withinBy, phaseAt, wordsBy}
 use Rattle.plans.specs.declared.Plan.{Plan}
 use Rattle.plans.specs.declared.Phase.the-variants.{First}
-use Rattle.completions.specs.Completions.{lookBy, seenOf, generationOf, touched}
+use Rattle.completions.specs.Plan.{answerTo, plannedBy, planOf}
+use Rattle.completions.specs.Completions.{lookBy, plannedSeen, seenOf, generationOf}
 use Rattle.judgement.specs.declared.Ending.{Ending}
 use Rattle.judgement.specs.declared.Ending.the-variants.{Success, UsedUp, BrokeItsWord}
 use Rattle.judgement.specs.Judgement.{judgeBy, testsOf, firstOrder, matchOrder, laterOrder}
 use Rattle.turns.specs.Turns.{turnOf}
+use Rattle.turns.specs.Touched.{touched}
 use Rattle.collection.specs.Collection.{setupOf, stepOf, decideOf, refusalOf, validState, completionFits, expectedOf, lookOf, moveOf, turnBy, actOf as moved, awaitedOf, beginning, copyAfter}
 use Rattle.collection.specs.declared.Next.{Next}
 use Rattle.collection.specs.declared.Next.the-variants.{Send, End as Ends}
@@ -30,12 +32,12 @@ use Rattle.sources.specs.Source.{Collector, ours, Turn, Stand, happens, happen,
 use Rattle.demand3.specs.Bench.{Sent, Taken, Dropped, actOf, capturesOf, dropsOf, ownOf, controllerSource}
 use Rattle.demand3.specs.Shown.{wantedArea}
 use Rattle.demand3.specs.Demand3.{final}
-use Rattle.worked_runs.specs.Scene.{blockOf, drive, hostDrive, newer, created, createWords, lentOf, planOf, hostPlan, smallDrive, smallPlan, stale, quiet, atOnce, after}
+use Rattle.worked_runs.specs.Scene.{blockOf, drive, hostDrive, newer, created, createWords, lentOf, scenePlan, hostPlan, smallDrive, smallPlan, stale, quiet, atOnce, after}
 use Rattle.worked_runs.specs.Lazy.{stopsWith, neverStops, readsOnce, comparesNothing, comparesGenerations, fakesTheRest, inventsItsCount}
 
 -- a run of a collector on 08h, with so many attempts, buffers of so many bytes and these turns
 abbrev pub runOf : Collector → ℕ → ℕ → List (Turn (controllerSource 8)) → Stand (controllerSource 8)
-runOf c attempts bytes ts = final c (planOf attempts) (stale 1024) drive (lentOf bytes) ts
+runOf c attempts bytes ts = final c (scenePlan attempts) (stale 1024) drive (lentOf bytes) ts
 
 -- as many turns as an undisturbed run needs
 abbrev pub undisturbed : List (Turn (controllerSource 8))
@@ -97,10 +99,10 @@ mixed = blockOf 5 ++ blockOf 8
 
 pub record Computed : Type 0 where
   -- ours
-  pub ours-undisturbed : Came (planOf 2) (runOf ours 2 512 undisturbed) (endsWith (Success false) 5) old old 0 0 5 2
-  pub ours-disturbed : Came (planOf 2) (runOf ours 2 512 (disturbed 5)) (endsWith (Success false) 8) new new 1 0 8 2
+  pub ours-undisturbed : Came (scenePlan 2) (runOf ours 2 512 undisturbed) (endsWith (Success false) 5) old old 0 0 5 2
+  pub ours-disturbed : Came (scenePlan 2) (runOf ours 2 512 (disturbed 5)) (endsWith (Success false) 8) new new 1 0 8 2
   pub ours-host : Came hostPlan hostRun (endsWith (Success false) 9) (replicate 2560 3 ++ zeros 512) (replicate 2560 3) 1 0 9 3
-  pub ours-late : Came (planOf 2) (runOf ours 2 512 late) (endsWith (Success true) 5) old old 1 0 5 2
+  pub ours-late : Came (scenePlan 2) (runOf ours 2 512 late) (endsWith (Success true) 5) old old 1 0 5 2
   pub late-most : runOf ours 2 512 late .counts .mostInAttempt ≡ 0
   -- ours, with a drop on 07h: before the first chunk, a block a command (the second chunk is refused) and two; after the last chunk; where no block was
   -- wanted before it either; and where 07h was empty already
@@ -111,21 +113,21 @@ pub record Computed : Type 0 where
   pub dropped-unwanted : Came (smallPlan 1 1 2) (smallRun ours 1 1 2 (0 ∷ 0 ∷ 2 ∷ 0 ∷ []) (dropFirst 5)) (endsWith (Success false) 3) (zeros 1024) [] 1 0 3 0
   pub dropped-empty : Came (smallPlan 3 1 2) (smallRun ours 3 1 2 (zeros 4) (dropFirst 5)) (endsWith (Success false) 2) (zeros 1024) [] 1 0 2 0
   -- lazy collectors
-  pub stopped : (e : Ending) → Came (planOf 2) (runOf (stopsWith e) 2 512 undisturbed) (endsWith e 1) (zeros 1024) old 0 0 1 2
+  pub stopped : (e : Ending) → Came (scenePlan 2) (runOf (stopsWith e) 2 512 undisturbed) (endsWith e 1) (zeros 1024) old 0 0 1 2
   pub stopped-live : (e : Ending) → runOf (stopsWith e) 2 512 undisturbed .checked .own .controller .tcda ≡ 1
-  pub read-once : Came (planOf 2) (runOf readsOnce 2 512 (disturbed 5)) (endsWith (Success false) 3) mixed old 1 0 3 2
-  pub compared-nothing : Came (planOf 2) (runOf comparesNothing 2 512 (disturbed 5)) (endsWith (Success false) 5) mixed new 1 0 5 2
+  pub read-once : Came (scenePlan 2) (runOf readsOnce 2 512 (disturbed 5)) (endsWith (Success false) 3) mixed old 1 0 3 2
+  pub compared-nothing : Came (scenePlan 2) (runOf comparesNothing 2 512 (disturbed 5)) (endsWith (Success false) 5) mixed new 1 0 5 2
   pub compared-generations : Came (smallPlan 3 1 2) (smallRun comparesGenerations 3 1 2 two (dropLast 3)) (endsWith (Success false) 4) (blockOf 1 ++ blockOf 2) [] 1 0 4 2
-  pub faked : Came (planOf 2) (runOf fakesTheRest 2 512 undisturbed) (endsWith (Success false) 5) (blockOf 5 ++ blockOf 9) old 0 0 5 2
-  pub invented : Came (planOf 2) (runOf inventsItsCount 2 512 undisturbed) (endsWith (Success false) 6) old old 0 0 5 2
-  pub going-on : Came (planOf 2) (runOf neverStops 2 512 undisturbed) (Send (awaitedOf (beginning (planOf 2) First 1))) (stale 1024) old 0 0 6 2
+  pub faked : Came (scenePlan 2) (runOf fakesTheRest 2 512 undisturbed) (endsWith (Success false) 5) (blockOf 5 ++ blockOf 9) old 0 0 5 2
+  pub invented : Came (scenePlan 2) (runOf inventsItsCount 2 512 undisturbed) (endsWith (Success false) 6) old old 0 0 5 2
+  pub going-on : Came (scenePlan 2) (runOf neverStops 2 512 undisturbed) (Send (awaitedOf (beginning (scenePlan 2) First 1))) (stale 1024) old 0 0 6 2
   -- ours, without a premise
-  pub used-up : Came (planOf 1) (runOf ours 1 512 (disturbed 1)) (endsWith UsedUp 4) (zeros 1024) new 1 0 4 2
+  pub used-up : Came (scenePlan 1) (runOf ours 1 512 (disturbed 1)) (endsWith UsedUp 4) (zeros 1024) new 1 0 4 2
   pub used-up-by-a-drop : Came (smallPlan 3 1 1) (smallRun ours 3 1 1 two (dropLast 3)) (endsWith UsedUp 4) (zeros 1024) [] 1 0 4 2
-  pub short : Came (planOf 2) (runOf ours 2 511 []) (endsWith BrokeItsWord 1) (zeros 1024) old 0 1 1 0
+  pub short : Came (scenePlan 2) (runOf ours 2 511 []) (endsWith BrokeItsWord 1) (zeros 1024) old 0 1 1 0
 
 pub computed : Computed
-unfolding chunkBlocks dropOf captureOf captureAnswered controllerCaptured captureAnswer final collected run happen happens hears begun setupOf setupAnswer holds stepOf decideOf refusalOf validState withinBy fitsRoom completionFits expectedOf lookOf lookBy seenOf checkOf faultOf lastOk sameLast generationOf moveOf judgeBy testsOf firstOrder matchOrder laterOrder turnBy turnOf moved awaitedOf wordsBy builtOf taken phaseAt copyAfter touched putAt commandOf answered commandAnswer agreesWith storeOk controllerOk identityOk greatestOf fieldBad lastAfter candidateOk sizeOf blocksOf topOf trimmedTo trimOf before afterwards sentOf pageOf pageBytes windowOf headerOf hostFields controllerFields fieldsFor hostCaptured ownOf actOf capturesOf dropsOf quiet wantedArea mostChunks noFields
+unfolding chunkBlocks dropOf captureOf captureAnswered controllerCaptured captureAnswer final collected run happen happens hears begun setupOf setupAnswer holds stepOf decideOf refusalOf validState withinBy fitsRoom completionFits expectedOf lookOf lookBy plannedSeen planOf plannedBy answerTo seenOf checkOf faultOf lastOk sameLast generationOf moveOf judgeBy testsOf firstOrder matchOrder laterOrder turnBy turnOf moved awaitedOf wordsBy builtOf taken phaseAt copyAfter touched putAt commandOf answered commandAnswer agreesWith storeOk controllerOk identityOk greatestOf fieldBad lastAfter candidateOk sizeOf blocksOf topOf trimmedTo trimOf before afterwards sentOf pageOf pageBytes windowOf headerOf hostFields controllerFields fieldsFor hostCaptured ownOf actOf capturesOf dropsOf quiet wantedArea mostChunks noFields
 computed = record {
   ours-undisturbed = record { said-is = refl; copy-is = refl; area-is = refl; changes-are = refl; refused-are = refl; sent-are = refl; chunks-are = refl };
   ours-disturbed = record { said-is = refl; copy-is = refl; area-is = refl; changes-are = refl; refused-are = refl; sent-are = refl; chunks-are = refl };

@@ -27,7 +27,7 @@ use Rattle.sources.specs.Promise.{mostCommands}
 use Rattle.demand3.specs.Bench.{controllerSource}
 use Rattle.demand3.specs.Shown.{showsFor, area-long}
 use Rattle.demand3.specs.Demand3.{Asked, TrueEnding, succeeded-by, room-short, gone, never-there, Demand3, final}
-use Rattle.worked_runs.specs.Scene.{drive, hostDrive, smallDrive, lentOf, planOf, hostPlan, smallPlan, stale}
+use Rattle.worked_runs.specs.Scene.{drive, hostDrive, smallDrive, lentOf, scenePlan, hostPlan, smallPlan, stale}
 use Rattle.worked_runs.specs.Lazy.{stopsWith, neverStops, readsOnce, comparesNothing, comparesGenerations, fakesTheRest, inventsItsCount}
 use Rattle.worked_runs.specs.Computed.{runOf, undisturbed, disturbed, late, hostDisturbed, hostRun, smallRun, two, dropFirst, dropLast, Came, endsWith, old, new, mixed, computed}
 use Rattle.worked_runs.specs.Many.{soak, round, spread, stitched, round-came, round-most, spread-came, spread-most}
@@ -40,14 +40,14 @@ typed = agreed-typed (drive .own) 0 1024 refl (record { host-four = refl; host-r
 
 -- of a run of any collector with two attempts and one capture at most
 abbrev pub Meant : Collector → List (Turn (controllerSource 8)) → ℕ → Type 0
-Meant c ts k = Asked c (planOf 2) (stale 1024) drive (lentOf 512) ts k
+Meant c ts k = Asked c (scenePlan 2) (stale 1024) drive (lentOf 512) ts k
 
 -- and it breaks what is promised, whatever is to be said of newer captures
 abbrev pub Breaks : Collector → List (Turn (controllerSource 8)) → ℕ → Type 0
-Breaks c ts k = (newer : Bool) → Demand3 c (planOf 2) (stale 1024) drive (lentOf 512) ts k newer → ⊥
+Breaks c ts k = (newer : Bool) → Demand3 c (scenePlan 2) (stale 1024) drive (lentOf 512) ts k newer → ⊥
 
 meant : (c : Collector) (ts : List (Turn (controllerSource 8))) (k : ℕ) {said : Next} {copy area : List ℕ} {sent chunks : ℕ} → k < 2
-    → Came (planOf 2) (runOf c 2 512 ts) said copy area k 0 sent chunks → Meant c ts k
+    → Came (scenePlan 2) (runOf c 2 512 ts) said copy area k 0 sent chunks → Meant c ts k
 unfolding setupAnswer holds
 meant c ts k l x = record { taken = refl; caps = refl; room = refl; typed = typed; attempts = l; changes = omega (arith, x .changes-are); spared = x .refused-are }
 
@@ -58,10 +58,10 @@ meant c ts k l x = record { taken = refl; caps = refl; room = refl; typed = type
 pub ours-disturbed : Meant ours (disturbed 5) 1
     × (runOf ours 2 512 (disturbed 5) .said ≡ endsWith (Success false) 8)
     × (runOf ours 2 512 (disturbed 5) .copy ≡ new)
-    × (mostCommands (planOf 2) 1 (mostChunks (planOf 2) (runOf ours 2 512 (disturbed 5) .headers)) ≡ 8)
+    × (mostCommands (scenePlan 2) 1 (mostChunks (scenePlan 2) (runOf ours 2 512 (disturbed 5) .headers)) ≡ 8)
 ours-disturbed =
     let x = computed .ours-disturbed in
-    (meant ours (disturbed 5) 1 (omega arith) x, x .said-is, x .copy-is, ap (mostCommands (planOf 2) 1) (x .chunks-are))
+    (meant ours (disturbed 5) 1 (omega arith) x, x .said-is, x .copy-is, ap (mostCommands (scenePlan 2) 1) (x .chunks-are))
 
 -- On 08h, with a capture after the last check: the copy is the page before it, a newer capture is told, and it is none of the captures in an attempt.
 pub ours-late : Meant ours late 1
@@ -144,13 +144,13 @@ stops-refuted e =
     let x = computed .stopped e in
     (meant (stopsWith e) undisturbed 0 (omega arith) x, λ newer d. by newer x (d .ended (record { ending = e; count = 1 }) (x .said-is)))
   where
-    by : (newer : Bool) → Came (planOf 2) (runOf (stopsWith e) 2 512 undisturbed) (endsWith e 1) (zeros 1024) old 0 0 1 2
-        → TrueEnding (stopsWith e) (planOf 2) (stale 1024) drive (lentOf 512) undisturbed newer (record { ending = e; count = 1 }) (runOf (stopsWith e) 2 512 undisturbed .checked) → ⊥
+    by : (newer : Bool) → Came (scenePlan 2) (runOf (stopsWith e) 2 512 undisturbed) (endsWith e 1) (zeros 1024) old 0 0 1 2
+        → TrueEnding (stopsWith e) (scenePlan 2) (stale 1024) drive (lentOf 512) undisturbed newer (record { ending = e; count = 1 }) (runOf (stopsWith e) 2 512 undisturbed .checked) → ⊥
     by newer x (succeeded-by a q l) =
         let z : _≡_ {A = ℕ} 0 5 = ap (λ (y : List ℕ). getD y 0 0) (sym (x .copy-is) ∙ q ∙ ap (λ (y : List ℕ). y ++ zeros (1024 - length y)) (x .area-is)) in
         absurd (omega arith)
     by newer x (room-short a q l) =
-        let n = sym (area-long (planOf 2) (runOf (stopsWith e) 2 512 undisturbed .checked)) ∙ ap length (x .area-is) in
+        let n = sym (area-long (scenePlan 2) (runOf (stopsWith e) 2 512 undisturbed .checked)) ∙ ap length (x .area-is) in
         absurd (omega (arith, l, n))
     by newer x (gone a q l m o) = absurd (omega (arith, o, x .sent-are))
     by newer x (never-there a q l m o) = absurd (omega (arith, m, computed .stopped-live e))
@@ -168,13 +168,13 @@ never-stops-refuted =
 pub reads-once-refuted : Meant readsOnce (disturbed 5) 1 × (runOf readsOnce 2 512 (disturbed 5) .copy ≡ mixed) × Breaks readsOnce (disturbed 5) 1
 reads-once-refuted =
     let x = computed .read-once in
-    (meant readsOnce (disturbed 5) 1 (omega arith) x, x .copy-is, wrong-copy readsOnce (planOf 2) drive 512 (disturbed 5) 1 512 3 x (λ z. omega arith))
+    (meant readsOnce (disturbed 5) 1 (omega arith) x, x .copy-is, wrong-copy readsOnce (scenePlan 2) drive 512 (disturbed 5) 1 512 3 x (λ z. omega arith))
 
 -- One that reads it again and compares nothing.
 pub compares-nothing-refuted : Meant comparesNothing (disturbed 5) 1 × (runOf comparesNothing 2 512 (disturbed 5) .copy ≡ mixed) × Breaks comparesNothing (disturbed 5) 1
 compares-nothing-refuted =
     let x = computed .compared-nothing in
-    (meant comparesNothing (disturbed 5) 1 (omega arith) x, x .copy-is, wrong-copy comparesNothing (planOf 2) drive 512 (disturbed 5) 1 0 5 x (λ z. omega arith))
+    (meant comparesNothing (disturbed 5) 1 (omega arith) x, x .copy-is, wrong-copy comparesNothing (scenePlan 2) drive 512 (disturbed 5) 1 0 5 x (λ z. omega arith))
 
 -- One that compares generations alone: its copy is of a page that was dropped.
 pub compares-generations-refuted : SmallMeant comparesGenerations 2 1 (dropLast 3) × SmallBreaks comparesGenerations 2 1 (dropLast 3)
@@ -187,7 +187,7 @@ compares-generations-refuted =
 pub fakes-refuted : Meant fakesTheRest undisturbed 0 × Breaks fakesTheRest undisturbed 0
 fakes-refuted =
     let x = computed .faked in
-    (meant fakesTheRest undisturbed 0 (omega arith) x, wrong-copy fakesTheRest (planOf 2) drive 512 undisturbed 0 512 5 x (λ z. omega arith))
+    (meant fakesTheRest undisturbed 0 (omega arith) x, wrong-copy fakesTheRest (scenePlan 2) drive 512 undisturbed 0 512 5 x (λ z. omega arith))
 
 -- One that invents its count.
 pub invents-refuted : Meant inventsItsCount undisturbed 0 × Breaks inventsItsCount undisturbed 0

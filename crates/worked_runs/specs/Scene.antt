@@ -67,8 +67,8 @@ abbrev pub lentOf : ℕ → Loan
 lentOf bytes = record { candidate = newer; buf = zeros bytes }
 
 -- area 1 of 08h, a block a command, into a copy of two blocks
-abbrev pub planOf : ℕ → Plan
-planOf attempts = record { page = 8; create = false; area = 1; chunk = 1; attempts = attempts; room = 1024; caps = caps }
+abbrev pub scenePlan : ℕ → Plan
+scenePlan attempts = record { page = 8; create = false; area = 1; chunk = 1; attempts = attempts; room = 1024; caps = caps }
 
 -- area 1 of 07h, two blocks a command, into a copy of six blocks
 abbrev pub hostPlan : Plan
