@@ -131,7 +131,7 @@ build/fuzz/fuzz: tests/fuzz/fuzz.c include/bumbazeel.h build/libbumbazeel.a
 		-o $@ $< build/libbumbazeel.a
 
 # the server without its sockets
-PDU_SOURCES := $(addprefix program/,transport.c admin.c embedded.c hold.c lazy.c device.c names.c)
+PDU_SOURCES := $(addprefix program/,transport.c admin.c embedded.c header.c fault.c json.c hold.c lazy.c device.c names.c)
 
 build/fuzz/pdu: tests/fuzz/pdu.c $(PDU_SOURCES) $(wildcard program/*.h) build/libbumbazeel.a
 	@mkdir -p $(@D)

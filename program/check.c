@@ -5,6 +5,7 @@
 #include "bumbazeel.h"
 #include "each.h"
 #include "fault.h"
+#include "header.h"
 #include "json.h"
 #include "numbers.h"
 #include "say.h"
@@ -24,7 +25,9 @@ static const char help[] = "usage: bumbazeel check [OPTIONS] FILE...\n"
                            "\n"
                            "Shows the header of a saved telemetry page, the first 512 bytes of FILE (- for\n"
                            "standard input), and which areas its length fits. Of several files it shows a\n"
-                           "line each, and counts them. Of a bad header it tells the field at fault.\n"
+                           "line each, and counts them. Of a bad header it tells the field at fault, and of\n"
+                           "one of page 08h that shows no data available just that.\n"
+                           "Exit status: 0 the length fits, 1 it does not, 7 a bad header, 11 no data.\n"
                            "\n"
                            "  --page 07h|08h  the page it must be (by default as its first byte says)\n"
                            "  --area4         the drive has area 4 (DA4S 1)\n"
@@ -46,9 +49,7 @@ struct saved {
 };
 
 struct finding {
-    struct bumbazeel_fields fields;
-    struct fault fault;
-    uint8_t answer;
+    struct reading header;
     bool da4s;
     unsigned areas; /* that the header speaks of: 3 or 4 */
     unsigned held;  /* the file is long enough for the areas 1 to this one */
@@ -108,17 +109,20 @@ static struct saved read_saved(const char *name) {
 }
 
 static struct finding judge(const struct saved *saved, bool da4s) {
-    struct finding f = {.da4s = da4s, .areas = da4s ? 4 : 3};
     uint8_t page = options.page ? options.page : saved->header[0];
-    f.answer = bumbazeel_check(page, da4s, saved->header, saved->header_bytes, &f.fields);
-    f.fault = fault_of(f.fields.bad_field, page, da4s, saved->header, saved->header_bytes);
+    uint8_t caps = da4s ? BUMBAZEEL_DA4S | BUMBAZEEL_ETDAS : 0; /* whoever saved it may have had a yes to area 4 */
+    struct finding f = {.da4s = da4s, .areas = greatest_area(caps)};
+    f.header = read_header(page, caps, saved->header, saved->header_bytes);
     return f;
 }
 
-/* Of a header that is bad by both, the fault that comes later is told: the earlier one is area 4's, which a wrong DA4S alone may make. */
+static bool bad(const struct finding *f) { return f->header.answer == BUMBAZEEL_BAD_HEADER; }
+
+/* By whichever DA4S the header is not bad, with data or without. Of one that is bad by both, the fault that comes later is told: the earlier
+ * one is area 4's, which a wrong DA4S alone may make. */
 static struct finding judge_by_either(const struct saved *saved) {
     struct finding with = judge(saved, true), without = judge(saved, false);
-    if (with.answer && (!without.answer || without.fault.field > with.fault.field))
+    if (bad(&with) && (!bad(&without) || without.header.fault.field > with.header.fault.field))
         return without;
     return with;
 }
@@ -126,8 +130,8 @@ static struct finding judge_by_either(const struct saved *saved) {
 static struct finding find(const struct saved *saved) {
     struct finding f = options.area_4 == EITHER ? judge_by_either(saved) : judge(saved, options.area_4 == WITH_AREA_4);
     for (unsigned area = 1; area <= f.areas; area++) {
-        uint64_t end = BLOCK * (1 + (uint64_t)f.fields.last[area - 1]);
-        if (f.answer == BUMBAZEEL_SUCCESS && saved->bytes >= end) {
+        uint64_t end = BLOCK * (1 + (uint64_t)f.header.planned.last[area - 1]);
+        if (f.header.answer == BUMBAZEEL_SUCCESS && saved->bytes >= end) {
             f.held = area;
             f.fits = saved->bytes == end;
         }
@@ -184,7 +188,10 @@ static void print_length(const struct finding *f, const struct saved *saved) {
     putchar('\n');
 }
 
-static void print_fault(const struct finding *f) { printf("%u (%s): %s\n", f->answer, meaning(f->answer), fault_text(&f->fault)); }
+/* Why nothing more is shown of the header. */
+static void print_why(const struct reading *header) {
+    print_answer(header->answer, meaning(header->answer), header->fault.field ? fault_text(&header->fault) : NULL);
+}
 
 /* One file of several in a line. */
 static void print_line(const char *name, const struct finding *f, const struct saved *saved) {
@@ -192,16 +199,16 @@ static void print_line(const char *name, const struct finding *f, const struct s
     snprintf(plain, sizeof plain, "%s", name);
     make_plain(plain);
     printf("%s: ", plain);
-    if (f->answer) {
-        print_fault(f);
+    if (f->header.answer) {
+        print_why(&f->header);
         return;
     }
-    printf("%02Xh, generation %u, ", f->fields.page, f->fields.page == 7 ? f->fields.host_generation : f->fields.controller_generation);
+    printf("%02Xh, generation %u, ", f->header.planned.page, own_generation(&f->header.planned));
     print_length(f, saved);
 }
 
 static void print_table(const struct finding *f, const struct saved *saved) {
-    const struct bumbazeel_fields *h = &f->fields;
+    const struct bumbazeel_planned *h = &f->header.planned;
     printf("%-24s%02Xh, telemetry %s-initiated\n", "page", h->page, h->page == 7 ? "host" : "controller");
     printf("%-24s%06Xh\n", "OUI", (unsigned)h->oui);
     printf("%-24s%u, %s\n", "scope", h->scope, scope_name(h->scope));
@@ -218,7 +225,7 @@ static void print_table(const struct finding *f, const struct saved *saved) {
 }
 
 static void print_fields(const struct finding *f) {
-    const struct bumbazeel_fields *h = &f->fields;
+    const struct bumbazeel_planned *h = &f->header.planned;
     printf(", \"page\": \"%02Xh\", \"oui\": \"%06X\", \"scope\": %u, \"scope_name\": \"%s\", \"da4s\": %s", h->page, (unsigned)h->oui,
            h->scope, scope_name(h->scope), json_flag(f->da4s));
     printf(", \"last_blocks\": [%u, %u, %u, %u]", (unsigned)h->last[0], (unsigned)h->last[1], (unsigned)h->last[2], (unsigned)h->last[3]);
@@ -230,15 +237,17 @@ static void print_fields(const struct finding *f) {
     putchar('"');
 }
 
-static int status_of(const struct finding *f) { return f->answer ? f->answer : f->fits ? STATUS_SUCCESS : STATUS_OTHER_LENGTH; }
+static int status_of(const struct finding *f) {
+    return f->header.answer ? f->header.answer : f->fits ? STATUS_SUCCESS : STATUS_OTHER_LENGTH;
+}
 
 static void print_json(const char *name, const struct finding *f, const struct saved *saved) {
     printf("{\"status\": %d, \"error\": null, \"file\": ", status_of(f));
     json_string(name);
-    printf(", \"answer\": %u, \"meaning\": ", f->answer);
-    json_string(meaning(f->answer));
-    fault_json(&f->fault);
-    if (f->answer == BUMBAZEEL_SUCCESS)
+    printf(", \"answer\": %u, \"meaning\": ", f->header.answer);
+    json_string(meaning(f->header.answer));
+    fault_json(&f->header.fault);
+    if (f->header.answer == BUMBAZEEL_SUCCESS)
         print_fields(f);
     printf(", \"file_bytes\": %llu, \"areas_held\": %u, \"length_fits\": %s}\n", (unsigned long long)saved->bytes, f->held,
            json_flag(f->fits));
@@ -252,11 +261,11 @@ static int check_file(const char *name) {
         print_json(name, &f, &saved);
     else if (options.files.count > 1)
         print_line(name, &f, &saved);
-    else if (f.answer == BUMBAZEEL_SUCCESS)
+    else if (f.header.answer == BUMBAZEEL_SUCCESS)
         print_table(&f, &saved);
     else {
         printf("%-24s", "header");
-        print_fault(&f);
+        print_why(&f.header);
     }
     close_stdout("");
     return status_of(&f);
@@ -266,8 +275,10 @@ static void summarize(const int *statuses) {
     size_t count[256] = {0}; /* of each exit status */
     for (size_t i = 0; i < options.files.count; i++)
         count[statuses[i]]++;
-    printf("%zu files: %zu with a length that fits, %zu with another, %zu with a bad header, %zu that cannot be read\n",
-           options.files.count, count[STATUS_SUCCESS], count[STATUS_OTHER_LENGTH], count[BUMBAZEEL_BAD_HEADER], count[STATUS_TROUBLE]);
+    printf("%zu files: %zu with a length that fits, %zu with another, ", options.files.count, count[STATUS_SUCCESS],
+           count[STATUS_OTHER_LENGTH]);
+    printf("%zu with a bad header, %zu with no data available, %zu that cannot be read\n", count[BUMBAZEEL_BAD_HEADER],
+           count[BUMBAZEEL_NOTHING], count[STATUS_TROUBLE]);
     close_stdout("");
 }
 

@@ -4,6 +4,7 @@
 #include "collect_options.h"
 #include "drive.h"
 #include "each.h"
+#include "header.h"
 #include "naming.h"
 #include "numbers.h"
 #include "output.h"
@@ -19,9 +20,8 @@ static struct collect_options options;
 
 /* What the drive decides where the options leave it open. */
 static void complete(struct wish *wish, const struct drive *drive) {
-    uint8_t both = BUMBAZEEL_DA4S | BUMBAZEEL_ETDAS;
     if (!wish->area)
-        wish->area = (drive->caps & both) == both ? 4 : 3;
+        wish->area = greatest_area(drive->caps);
     if (!options.room_given)
         wish->room = wish->area == 4 ? MOST_ROOM : LAST_OF_AREA_3 * BLOCK;
     if (wish->blocks > drive->most_blocks) {

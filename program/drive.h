@@ -69,11 +69,11 @@ struct embedded {
 };
 
 /* A drive with a capture on the page. The happenings, in their order, happen as the run sends its commands. */
-struct drive *embedded_open(uint8_t page, const struct embedded *plan);
+struct drive *embedded_open(uint8_t page, const struct embedded *settings);
 
 /* A drive with a capture on each page, first 08h and then 07h, for the functions below. What it refuses in the middle is said and does not
  * end the program. */
-const struct drive *embedded_open_both(const struct embedded *plan);
+const struct drive *embedded_open_both(const struct embedded *settings);
 
 /* What is to become of a command, besides its answer. */
 struct fate {

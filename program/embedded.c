@@ -5,6 +5,7 @@
  * the happenings say. */
 #include "drive.h"
 
+#include "header.h"
 #include "lazy.h"
 #include "numbers.h"
 #include "say.h"
@@ -28,7 +29,7 @@ struct candidate {
 
 static struct {
     struct drive drive;
-    struct embedded plan;
+    struct embedded settings;
     uint8_t page; /* the only one; 0: both */
     struct bumbazeel_record record, told; /* `told` is the record when it was last asked whether it has changed */
     uint8_t *host, *controller; /* the stores: of one page only that one has any bytes */
@@ -52,13 +53,13 @@ static uint64_t mixed(uint64_t x) {
 
 static struct candidate next_candidate(const uint32_t areas[4]) {
     struct candidate c = {.bytes = here.spare, .count = (size_t)areas[3] * BLOCK, .reason_bytes = REASON};
-    uint64_t base = mixed(here.plan.seed + here.captures);
+    uint64_t base = mixed(here.settings.seed + here.captures);
     memcpy(c.last, areas, sizeof c.last);
     for (size_t at = 0; at < c.count; at += sizeof base) {
         uint64_t word = mixed(base + at / sizeof base);
         memcpy(c.bytes + at, &word, sizeof word);
     }
-    snprintf((char *)c.reason, REASON, "embedded drive, seed %llu, capture %llu", (unsigned long long)here.plan.seed,
+    snprintf((char *)c.reason, REASON, "embedded drive, seed %llu, capture %llu", (unsigned long long)here.settings.seed,
              (unsigned long long)here.captures);
     here.captures++;
     return c;
@@ -157,13 +158,13 @@ struct fate embedded_before(uint8_t page) {
     struct fate fate = {.closing = CAPTURE};
     size_t left = 0;
     here.sent++;
-    for (size_t i = 0; i < here.plan.count; i++) {
-        if (here.plan.happenings[i].before == here.sent)
-            let_happen(&here.plan.happenings[i], page, &fate);
-        else if (here.plan.happenings[i].before > here.sent)
-            here.plan.happenings[left++] = here.plan.happenings[i];
+    for (size_t i = 0; i < here.settings.count; i++) {
+        if (here.settings.happenings[i].before == here.sent)
+            let_happen(&here.settings.happenings[i], page, &fate);
+        else if (here.settings.happenings[i].before > here.sent)
+            here.settings.happenings[left++] = here.settings.happenings[i];
     }
-    here.plan.count = left;
+    here.settings.count = left;
     return fate;
 }
 
@@ -176,7 +177,7 @@ static void change_header(uint8_t *front, size_t bytes) {
 
 uint8_t embedded_answer(const uint32_t words[5], uint8_t *data, size_t bytes) {
     bool create = (words[0] & 0xFF) == BUMBAZEEL_HOST_PAGE && words[0] & CREATE_BIT;
-    struct candidate c = create ? next_candidate(here.plan.areas) : no_candidate();
+    struct candidate c = create ? next_candidate(here.settings.areas) : no_candidate();
     uint8_t answer = command(&c, words, data, bytes);
     if (!answer && !words[2] && !words[3]) /* at offset 0 */
         change_header(data, bytes);
@@ -200,20 +201,20 @@ uint8_t embedded_now(const struct happening *happening) {
 }
 
 bool embedded_later(const struct happening *happening) {
-    if (here.plan.count >= MOST_HAPPENINGS || (size_t)happening->areas[3] * BLOCK > here.spare_bytes)
+    if (here.settings.count >= MOST_HAPPENINGS || (size_t)happening->areas[3] * BLOCK > here.spare_bytes)
         return false;
-    struct happening *all = realloc(here.plan.happenings, (here.plan.count + 1) * sizeof *all);
+    struct happening *all = realloc(here.settings.happenings, (here.settings.count + 1) * sizeof *all);
     if (!all)
         return false;
-    here.plan.happenings = all;
-    all[here.plan.count] = *happening;
-    all[here.plan.count++].before += here.sent;
+    here.settings.happenings = all;
+    all[here.settings.count] = *happening;
+    all[here.settings.count++].before += here.sent;
     return true;
 }
 
-void embedded_forget(void) { here.plan.count = 0; }
+void embedded_forget(void) { here.settings.count = 0; }
 
-const uint32_t *embedded_areas(void) { return here.plan.areas; }
+const uint32_t *embedded_areas(void) { return here.settings.areas; }
 
 bool embedded_changed(void) {
     bool changed = memcmp(&here.told, &here.record, sizeof here.told) != 0;
@@ -225,37 +226,36 @@ bool embedded_notice(void) { return here.record.notice; }
 
 size_t embedded_held(uint8_t page, uint8_t header[BLOCK], const uint8_t **blocks) {
     struct candidate none = no_candidate();
-    struct bumbazeel_fields fields; /* no last blocks of a bad header */
     uint32_t words[5];
     bumbazeel_words(page, 0, 0, 1, 0, 1, words);
     uint8_t answer = command(&none, words, header, BLOCK);
     if (answer)
         memset(header, 0, BLOCK);
-    bumbazeel_check(page, here.plan.caps & BUMBAZEEL_DA4S, header, BLOCK, &fields);
+    struct reading found = read_header(page, here.settings.caps, header, BLOCK);
     *blocks = page == BUMBAZEEL_HOST_PAGE ? here.host : here.controller;
-    return (size_t)(fields.last[3] > fields.last[2] ? fields.last[3] : fields.last[2]) * BLOCK;
+    return (size_t)blocks_held(found.planned.last) * BLOCK;
 }
 
 /* The bytes of the largest capture to come. */
-static size_t store_bytes(const struct embedded *plan) {
-    uint32_t most = plan->areas[3];
-    for (size_t i = 0; i < plan->count; i++)
-        if (plan->happenings[i].what == CAPTURE && plan->happenings[i].areas[3] > most)
-            most = plan->happenings[i].areas[3];
+static size_t store_bytes(const struct embedded *settings) {
+    uint32_t most = settings->areas[3];
+    for (size_t i = 0; i < settings->count; i++)
+        if (settings->happenings[i].what == CAPTURE && settings->happenings[i].areas[3] > most)
+            most = settings->happenings[i].areas[3];
     return (size_t)most * BLOCK;
 }
 
 /* A drive before any capture. */
-static void start(uint8_t page, const struct embedded *plan) {
-    size_t bytes = store_bytes(plan);
+static void start(uint8_t page, const struct embedded *settings) {
+    size_t bytes = store_bytes(settings);
     here.drive = (struct drive){.serial = "EMBEDDED",
                                 .model = "Bumbazeel embedded drive",
                                 .firmware = VERSION,
-                                .caps = plan->caps,
+                                .caps = settings->caps,
                                 .oui = OUI,
                                 .most_blocks = UINT32_MAX,
                                 .send = embedded_send};
-    here.plan = *plan;
+    here.settings = *settings;
     here.page = page;
     here.host_bytes = page != BUMBAZEEL_CONTROLLER_PAGE ? bytes : 0;
     here.controller_bytes = page != BUMBAZEEL_HOST_PAGE ? bytes : 0;
@@ -263,25 +263,25 @@ static void start(uint8_t page, const struct embedded *plan) {
     here.controller = lazy_bytes(here.controller_bytes);
     here.spare = lazy_bytes(bytes);
     here.spare_bytes = bytes;
-    uint8_t answer = bumbazeel_fresh(plan->caps, OUI, SCOPE_CONTROLLER, SCOPE_CONTROLLER, &here.record);
+    uint8_t answer = bumbazeel_fresh(settings->caps, OUI, SCOPE_CONTROLLER, SCOPE_CONTROLLER, &here.record);
     if (answer)
         die("the embedded drive cannot start: %u (%s)", answer, meaning(answer));
-    uint8_t generation = plan->empty ? plan->generation : (uint8_t)(plan->generation - 1u); /* the first capture adds one */
+    uint8_t generation = settings->empty ? settings->generation : (uint8_t)(settings->generation - 1u); /* the first capture adds one */
     here.record.host_generation = here.record.controller_generation = generation;
 }
 
-struct drive *embedded_open(uint8_t page, const struct embedded *plan) {
-    start(page, plan);
-    if (!plan->empty)
-        tell_capture(capture(page, plan->areas), page, plan->areas);
+struct drive *embedded_open(uint8_t page, const struct embedded *settings) {
+    start(page, settings);
+    if (!settings->empty)
+        tell_capture(capture(page, settings->areas), page, settings->areas);
     return &here.drive;
 }
 
-const struct drive *embedded_open_both(const struct embedded *plan) {
-    start(0, plan);
-    if (!plan->empty) {
-        tell_capture(capture(BUMBAZEEL_CONTROLLER_PAGE, plan->areas), BUMBAZEEL_CONTROLLER_PAGE, plan->areas);
-        tell_capture(capture(BUMBAZEEL_HOST_PAGE, plan->areas), BUMBAZEEL_HOST_PAGE, plan->areas);
+const struct drive *embedded_open_both(const struct embedded *settings) {
+    start(0, settings);
+    if (!settings->empty) {
+        tell_capture(capture(BUMBAZEEL_CONTROLLER_PAGE, settings->areas), BUMBAZEEL_CONTROLLER_PAGE, settings->areas);
+        tell_capture(capture(BUMBAZEEL_HOST_PAGE, settings->areas), BUMBAZEEL_HOST_PAGE, settings->areas);
     }
     return &here.drive;
 }

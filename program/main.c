@@ -25,9 +25,9 @@ static const char help[] = "usage: bumbazeel COMMAND [OPTIONS]\n"
                            "bumbazeel -V, --version tells the version.\n"
                            "\n"
                            "Exit status: 0 success; 7 to 12 the ending of a collection, 7 a bad header of a\n"
-                           "saved page, 11 nothing to tell; 1 a file that is not as long as its header says;\n"
-                           "2 bad use, and what the machine refuses. Of several drives or files the first\n"
-                           "status that is not 0 counts.\n";
+                           "saved page, 11 nothing on a drive or in a saved page 08h; 1 a file that is not\n"
+                           "as long as its header says; 2 bad use, and what the machine refuses. Of several\n"
+                           "drives or files the first status that is not 0 counts.\n";
 
 static const struct {
     const char *name;

@@ -1,12 +1,13 @@
 /* The run: the library decides every command and the ending; here words are sent, bytes are moved and the copy is saved.
  *
- * How much room the copy needs is known when a header is there. Setup is a plain function of numbers, so it is asked twice: without room,
- * for the words of the first command, and again with the room that the header calls for when the command is completed; its first command
+ * How much room the copy needs is planned when a header is there. Setup is a plain function of numbers, so it is asked twice: without room,
+ * for the words of the first command, and again with the room that the plan calls for when the command is completed; its first command
  * is the very one that was sent, so the completion is its own. A header that shows more than there is room for opens a collection in the
  * same way. */
 #include "run.h"
 
 #include "bumbazeel.h"
+#include "header.h"
 #include "lazy.h"
 #include "numbers.h"
 #include "output.h"
@@ -63,14 +64,15 @@ static void begin(struct under_way *r) {
     r->data = held_bytes((size_t)r->wish->blocks * BLOCK);
 }
 
-static struct bumbazeel_fields fields_of(const struct under_way *r, const uint8_t *header) {
-    struct bumbazeel_fields fields; /* no last blocks of a bad header */
-    bumbazeel_check(r->wish->page, r->drive->caps & BUMBAZEEL_DA4S, header, BLOCK, &fields);
-    return fields;
+/* Plans the wish from the header just read: the library's answer, and the bytes that the wanted area takes. With a refusal these are 0: in
+ * no more room than the wish's the collection ends at this header. */
+static uint8_t plan(const struct under_way *r, size_t *bytes) {
+    const struct wish *w = r->wish;
+    struct bumbazeel_planned planned;
+    uint8_t answer = bumbazeel_plan(w->page, w->area, r->drive->caps, w->blocks, w->room, r->data, BLOCK, &planned);
+    *bytes = (size_t)planned.last[w->area - 1] * BLOCK;
+    return answer;
 }
-
-/* The bytes that the wanted area of the header just read takes. */
-static size_t needed(const struct under_way *r) { return (size_t)fields_of(r, r->data).last[r->wish->area - 1] * BLOCK; }
 
 static void hold(struct under_way *r, size_t bytes) {
     if (r->held >= bytes)
@@ -83,7 +85,9 @@ static void hold(struct under_way *r, size_t bytes) {
 
 /* Sets up once more, with room for the header just read, which the drive gave for this very first command. */
 static void make_room(struct under_way *r, uint8_t create) {
-    size_t area = needed(r), room = area + area / GROWTH_PART / BLOCK * BLOCK + LEAST_GROWTH;
+    size_t area;
+    plan(r, &area);
+    size_t room = area + area / GROWTH_PART / BLOCK * BLOCK + LEAST_GROWTH;
     set_up(r, create, room < r->wish->room ? room : r->wish->room);
     if (memcmp(r->sent, r->next.words, sizeof r->sent) != 0)
         die("the collection asks for another command than the one that was sent");
@@ -97,7 +101,8 @@ static void take(struct under_way *r, bool ok, size_t bytes) {
 
 /* Whether the collection has ended for want of room that may be had. */
 static bool can_grow(const struct under_way *r) {
-    return r->next.kind == BUMBAZEEL_ENDED && r->next.answer == BUMBAZEEL_NO_ROOM && needed(r) <= r->wish->room;
+    size_t area;
+    return r->next.kind == BUMBAZEEL_ENDED && r->next.answer == BUMBAZEEL_NO_ROOM && plan(r, &area) == BUMBAZEEL_SUCCESS;
 }
 
 /* The header just read opens its attempt once more, with room for it. */
@@ -135,15 +140,14 @@ static bool exchange(struct under_way *r) {
 }
 
 static void save(struct under_way *r) {
-    struct bumbazeel_fields fields = fields_of(r, r->image);
-    uint32_t wanted = fields.last[r->wish->area - 1], greatest = fields.last[3] > fields.last[2] ? fields.last[3] : fields.last[2];
+    uint32_t wanted = r->state.last[r->wish->area - 1], all = blocks_held(r->state.last); /* as in the closing header: it matched */
     size_t bytes = BLOCK * (1 + (size_t)wanted);
     output_save(r->image, bytes);
     report.file = output_called();
     report.to_standard_output = output_is_standard();
     report.bytes = bytes;
-    report.unread = greatest - wanted;
-    report.empty = greatest == 0;
+    report.unread = all - wanted;
+    report.empty = all == 0;
     int reason = output_sync_name();
     if (reason)
         die("the directory of %s cannot be synced: %s: %s", report.file, strerror(reason), report_standing());

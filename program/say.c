@@ -81,6 +81,10 @@ const char *meaning(uint8_t answer) {
     return answer < sizeof meanings / sizeof *meanings ? meanings[answer] : "unknown answer";
 }
 
+void print_answer(uint8_t answer, const char *words, const char *why) {
+    printf("%u (%s)%s%s\n", answer, words, why ? ": " : "", why ? why : "");
+}
+
 void close_stdout(const char *aside) {
     int lost = ferror(stdout); /* an earlier line; its reason is gone */
     errno = 0;

@@ -28,6 +28,9 @@ void say_at_death(void (*tell)(int status, const char *error));
 /* The meaning of an answer number, in document 01's words. */
 const char *meaning(uint8_t answer);
 
+/* Prints "7 (bad header): why", the words being those in parentheses; NULL: there is nothing to say of why. */
+void print_answer(uint8_t answer, const char *words, const char *why);
+
 /* The text with a '?' for each byte that would break a line or steer a terminal. */
 void make_plain(char *text);
 

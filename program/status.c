@@ -6,6 +6,7 @@
 #include "drive.h"
 #include "each.h"
 #include "fault.h"
+#include "header.h"
 #include "json.h"
 #include "names.h"
 #include "numbers.h"
@@ -49,16 +50,8 @@ static void read_options(char **words) {
         die("status needs DEVICE, such as /dev/nvme0 (bumbazeel list shows those at hand)");
 }
 
-/* The header's fields, or the answer that says why there are none, with the fault of a bad header. */
-struct finding {
-    uint8_t answer;
-    struct bumbazeel_fields fields;
-    struct fault fault;
-};
-
-static struct finding ask(struct drive *drive) {
-    struct finding f = {.answer = BUMBAZEEL_BROKE_ITS_WORD};
-    bool da4s = drive->caps & BUMBAZEEL_DA4S;
+static struct reading ask(struct drive *drive) {
+    struct reading refused = {.answer = BUMBAZEEL_BROKE_ITS_WORD};
     uint32_t words[5];
     uint8_t header[BLOCK];
     if (!(drive->caps & BUMBAZEEL_TELEMETRY))
@@ -67,19 +60,14 @@ static struct finding ask(struct drive *drive) {
     enum completion completion = drive->send(drive, words, header, sizeof header);
     if (completion == LOST)
         die("%s: %s", drive->path, drive->trouble);
-    if (completion == REFUSED)
-        return f;
-    f.answer = bumbazeel_check(options.page, da4s, header, sizeof header, &f.fields);
-    f.fault = fault_of(f.fields.bad_field, options.page, da4s, header, sizeof header);
-    return f;
+    return completion == REFUSED ? refused : read_header(options.page, drive->caps, header, sizeof header);
 }
 
-static uint32_t greatest(const struct bumbazeel_fields *fields) {
-    return fields->last[3] > fields->last[2] ? fields->last[3] : fields->last[2];
+/* The answer that is told: 07h without blocks is nothing too, though its header says all that it has to say. */
+static uint8_t told(const struct reading *header) {
+    bool empty = header->answer == BUMBAZEEL_SUCCESS && !blocks_held(header->planned.last);
+    return empty ? BUMBAZEEL_NOTHING : header->answer;
 }
-
-/* Whether the page has something: 08h says so itself, and 07h has blocks if a capture was ever taken. */
-static bool something(const struct bumbazeel_fields *fields) { return options.page == 8 ? fields->available : greatest(fields) > 0; }
 
 /* `meaning` has 08h's words for nothing. */
 static const char *in_words(uint8_t answer) { return answer == BUMBAZEEL_NOTHING ? "nothing" : meaning(answer); }
@@ -89,25 +77,22 @@ static const char *reason(const struct drive *drive, const struct fault *fault) 
     return fault->field ? fault_text(fault) : drive->refusal ? status_name(drive->refusal) : NULL;
 }
 
-static void print_line(const struct drive *drive, const struct finding *f) {
-    const struct bumbazeel_fields *fields = &f->fields;
-    const char *why = reason(drive, &f->fault);
+static void print_line(const struct drive *drive, const struct reading *header) {
+    uint32_t blocks = blocks_held(header->planned.last);
     char path[4096];
     snprintf(path, sizeof path, "%s", drive->path);
     make_plain(path);
     printf("%s  %s  %s  %02Xh: ", path, drive->serial, drive->model, options.page);
-    if (f->answer == BUMBAZEEL_SUCCESS)
-        printf("yes, generation %u, %u blocks, %llu bytes\n",
-               options.page == 7 ? fields->host_generation : fields->controller_generation, (unsigned)greatest(fields),
-               (unsigned long long)BLOCK * (1 + (uint64_t)greatest(fields)));
+    if (told(header) == BUMBAZEEL_SUCCESS)
+        printf("yes, generation %u, %u blocks, %llu bytes\n", own_generation(&header->planned), (unsigned)blocks,
+               (unsigned long long)BLOCK * (1 + (uint64_t)blocks));
     else
-        printf("%u (%s)%s%s\n", f->answer, in_words(f->answer), why ? ": " : "", why ? why : "");
+        print_answer(told(header), in_words(told(header)), reason(drive, &header->fault));
 }
 
-static void print_json(const struct drive *drive, const struct finding *f) {
-    const struct bumbazeel_fields *fields = &f->fields;
-    bool known = f->answer == BUMBAZEEL_SUCCESS || f->answer == BUMBAZEEL_NOTHING;
-    printf("{\"status\": %u, \"error\": null, \"device\": ", f->answer);
+static void print_json(const struct drive *drive, const struct reading *header) {
+    const uint32_t *last = header->planned.last;
+    printf("{\"status\": %u, \"error\": null, \"device\": ", told(header));
     json_string(drive->path);
     printf(", \"serial\": ");
     json_string(drive->serial);
@@ -116,27 +101,24 @@ static void print_json(const struct drive *drive, const struct finding *f) {
     printf(", \"firmware\": ");
     json_string(drive->firmware);
     printf(", \"page\": \"%02Xh\", \"meaning\": ", options.page);
-    json_string(in_words(f->answer));
-    fault_json(&f->fault);
-    if (known)
-        printf(", \"generation\": %u, \"last_blocks\": [%u, %u, %u, %u]",
-               options.page == 7 ? fields->host_generation : fields->controller_generation, (unsigned)fields->last[0],
-               (unsigned)fields->last[1], (unsigned)fields->last[2], (unsigned)fields->last[3]);
+    json_string(in_words(told(header)));
+    fault_json(&header->fault);
+    if (header->answer == BUMBAZEEL_SUCCESS)
+        printf(", \"generation\": %u, \"last_blocks\": [%u, %u, %u, %u]", own_generation(&header->planned), (unsigned)last[0],
+               (unsigned)last[1], (unsigned)last[2], (unsigned)last[3]);
     printf(", \"refusal_status\": \"%04Xh\"}\n", drive->refusal);
 }
 
 static int tell_status(const char *path) {
     struct drive *drive = device_open(path, options.timeout);
-    struct finding f = ask(drive);
-    if (f.answer == BUMBAZEEL_SUCCESS && !something(&f.fields))
-        f.answer = BUMBAZEEL_NOTHING;
+    struct reading header = ask(drive);
     say_at_death(NULL); /* its object is the one that is printed here */
     if (options.json)
-        print_json(drive, &f);
+        print_json(drive, &header);
     else
-        print_line(drive, &f);
+        print_line(drive, &header);
     close_stdout("");
-    return f.answer;
+    return told(&header);
 }
 
 int status_command(char **words) {
