@@ -11,7 +11,8 @@
 # make clean     removes build/; what rt has proved stays in target/
 version = $(shell sed -n 's/^\#define BUMBAZEEL_VERSION_$(1) //p' include/bumbazeel.h)
 VERSION := $(call version,MAJOR).$(call version,MINOR).$(call version,PATCH)
-SONAME := libbumbazeel.so.$(call version,MAJOR)
+# While MAJOR is 0, functions may leave with a new MINOR: a program is given no other library than one of the MINOR that it was linked with.
+SONAME := libbumbazeel.so.$(call version,MAJOR)$(if $(filter 0,$(call version,MAJOR)),.$(call version,MINOR))
 PREFIX ?= /usr/local
 CFLAGS ?= -O2 -Wall -Wextra
 INSTALL ?= install
@@ -47,7 +48,8 @@ build/libbumbazeel.a: $(PROVED) | linkable
 	rm -f $@
 	$(AR) rcs $@ build/host_boundary.o build/controller_boundary.o
 
-build/libbumbazeel.so: build/libbumbazeel.a program/exports.map Makefile
+# The version, and so the name, stands in the header file.
+build/libbumbazeel.so: build/libbumbazeel.a program/exports.map include/bumbazeel.h Makefile
 	$(CC) $(CFLAGS) $(LDFLAGS) -shared -Wl,-soname,$(SONAME) -Wl,--version-script=program/exports.map -Wl,-z,noexecstack -Wl,-z,defs \
 		-Wl,--whole-archive build/libbumbazeel.a -Wl,--no-whole-archive -o $@
 
@@ -56,7 +58,7 @@ OBJECTS ?= build/program
 SOURCES := $(wildcard program/*.c)
 PROGRAM_FLAGS := -std=c11 -D_DEFAULT_SOURCE -DVERSION='"$(VERSION)"' -Iinclude
 
-$(OBJECTS)/%.o: program/%.c Makefile
+$(OBJECTS)/%.o: program/%.c include/bumbazeel.h Makefile
 	@mkdir -p $(@D)
 	$(CC) $(CPPFLAGS) $(CFLAGS) $(PROGRAM_FLAGS) -MMD -MP -c -o $@ $<
 
