@@ -2,10 +2,10 @@
 //! header file writes beside each field. Written from the header file's words and documents 01 and 02.
 
 use crate::controller::{self, Candidate, Record};
-use crate::host::{self, Awaited, Collection, Fault, Fields, Outcome, Plan};
+use crate::host::{self, Awaited, Collection, Fault, Outcome, Plan, Planned};
 use crate::rules::*;
 
-pub const FIELDS_BYTES: usize = 156;
+pub const PLANNED_BYTES: usize = 160;
 pub const STATE_BYTES: usize = 56;
 pub const NEXT_BYTES: usize = 32;
 pub const RECORD_BYTES: usize = 300;
@@ -104,8 +104,9 @@ pub fn write_record(record: &Record) -> [u8; RECORD_BYTES] {
     bytes
 }
 
-fn write_fields(fields: &Fields) -> [u8; FIELDS_BYTES] {
-    let mut bytes = [0; FIELDS_BYTES];
+fn write_planned(planned: &Planned) -> [u8; PLANNED_BYTES] {
+    let fields = &planned.fields;
+    let mut bytes = [0; PLANNED_BYTES];
     bytes[0] = fields.page;
     bytes[1] = fields.scope;
     bytes[2] = fields.host_generation;
@@ -114,6 +115,7 @@ fn write_fields(fields: &Fields) -> [u8; FIELDS_BYTES] {
     put_u32(&mut bytes, 8, fields.oui);
     put_last(&mut bytes, 12, fields.last);
     bytes[28..156].copy_from_slice(&fields.reason);
+    put_u32(&mut bytes, 156, planned.chunks);
     bytes
 }
 
@@ -135,8 +137,8 @@ fn fault_number(fault: Option<Fault>) -> u8 {
 }
 
 /// Of a bad header what is at fault and where it starts, and else zeros.
-fn write_fault(page: u8, fault: Fault) -> [u8; FIELDS_BYTES] {
-    let mut bytes = [0; FIELDS_BYTES];
+fn write_fault(page: u8, fault: Fault) -> [u8; PLANNED_BYTES] {
+    let mut bytes = [0; PLANNED_BYTES];
     bytes[5] = fault_number(Some(fault));
     bytes[6..8].copy_from_slice(&host::starts_at(fault, page).to_le_bytes());
     bytes
@@ -230,15 +232,47 @@ fn write_next(outcome: &Outcome) -> [u8; NEXT_BYTES] {
     bytes
 }
 
-pub fn check(page: u8, da4s: u8, header: &[u8], fields: &mut [u8; FIELDS_BYTES]) -> u8 {
-    match host::check_header(page, da4s != 0, header) {
-        Ok(said) => {
-            *fields = write_fields(&said);
+/// The arguments of `bumbazeel_plan` but for the header and what it writes: those of a setup but for create and attempts.
+#[derive(Clone, Copy, Debug)]
+pub struct Wanted {
+    pub page: u8,
+    pub area: u8,
+    pub caps: u8,
+    pub chunk: u32,
+    pub room: u64,
+}
+
+impl Wanted {
+    /// The plan that refuses the fewest headers of a page: of the greatest area that the capabilities allow, a block a command, into the
+    /// largest copy.
+    pub fn largest(page: u8, caps: u8) -> Wanted {
+        let area = if capabilities_of(caps).area_4() { 4 } else { 3 };
+        Wanted { page, area, caps, chunk: 1, room: host::ROOM_LIMIT }
+    }
+
+    pub fn setup(self, create: u8, attempts: u32) -> Setup {
+        let Wanted { page, area, caps, chunk, room } = self;
+        Setup { page, create, area, caps, chunk, attempts, room }
+    }
+}
+
+pub fn plan(wanted: Wanted, header: &[u8], planned: &mut [u8; PLANNED_BYTES]) -> u8 {
+    *planned = [0; PLANNED_BYTES];
+    if wanted.caps > 31 {
+        // To a setup they are bad ones.
+        return BAD_SETUP;
+    }
+    let Wanted { page, area, chunk, room, .. } = wanted;
+    match host::plan_from_header(page, header, capabilities_of(wanted.caps), area, chunk, room) {
+        Ok(given) => {
+            *planned = write_planned(&given);
             SUCCESS
         }
-        Err(fault) => {
-            *fields = write_fault(page, fault);
-            BAD_HEADER
+        Err((answer, fault)) => {
+            if let Some(fault) = fault {
+                *planned = write_fault(page, fault);
+            }
+            answer
         }
     }
 }
@@ -272,6 +306,13 @@ pub struct Setup {
     pub chunk: u32,
     pub attempts: u32,
     pub room: u64,
+}
+
+impl Setup {
+    pub fn wanted(self) -> Wanted {
+        let Setup { page, area, caps, chunk, room, .. } = self;
+        Wanted { page, area, caps, chunk, room }
+    }
 }
 
 pub fn setup(arguments: Setup, state: &mut [u8; STATE_BYTES], next: &mut [u8; NEXT_BYTES]) -> u8 {

@@ -1,16 +1,17 @@
-//! What is at fault in a bad header: each fault alone, every two and more of them together, at a check and in collections. What is due follows
-//! here from what was put into a header, by document 02's order, so these cases are a third opinion on it.
+//! What is at fault in a bad header: each fault alone, every two and more of them together, at a plan and in collections. What is due follows
+//! here from what was put into a header, by document 02's order, so these cases are a third opinion on it. The plans are of the greatest area
+//! into the largest copy, so that nothing but the header refuses them.
 //!
 //! These cannot be at fault together:
 //! - TCDA and available but empty: one has TCDA over 1, the other TCDA 1;
 //! - on 07h available but empty and anything: it is a rule of 08h alone;
 //! - area 4 below area 3 and available but empty: area 3 ends at block 0 then, so area 4 is at fault in another way;
-//! - the length and what stands in bytes that are not there: of no bytes only the page asked for can be wrong besides;
+//! - the length and what stands in bytes that are not there;
 //! - in a collection the length and anything: a header of another length does not fit (15).
 
 use std::collections::BTreeSet;
 
-use crate::boundary::{Setup, ENDED, NEXT_BYTES, REFUSED, STATE_BYTES};
+use crate::boundary::{Setup, Wanted, ENDED, NEXT_BYTES, PLANNED_BYTES, REFUSED, STATE_BYTES};
 use crate::generate::{self, DA4S, ETDAS, EXTENDED, MCDAS, TELEMETRY};
 use crate::orders::header_state;
 use crate::pair::{hex, Difference, Pair, Same};
@@ -172,51 +173,69 @@ fn hold(holds: bool, what: impl Fn() -> String) -> Same<()> {
     Err(Difference(format!("both agree, but not with document 02: {}", what())))
 }
 
-/// A check that is to find this at fault, and then tells nothing else of the header.
-fn check(pair: &mut Pair, page: u8, da4s: u8, header: &[u8], due: u8) -> Same<()> {
-    let (answer, fields) = pair.check(page, da4s, header)?;
+/// What nothing but a header refuses: with DA4S 1 area 4 may be wanted or, without ETDAS, not.
+fn caps(random: &mut Random, da4s: bool) -> u8 {
+    EXTENDED | TELEMETRY | random.pick(&[0, ETDAS, MCDAS, ETDAS | MCDAS]) | if da4s { DA4S } else { 0 }
+}
+
+/// A plan that is to find this at fault, and then tells nothing else of the header. Of a good one it tells what it says, but for one of 08h
+/// that shows no data available: that is 11, and tells nothing.
+fn find(pair: &mut Pair, page: u8, caps: u8, header: &[u8], due: u8) -> Same<()> {
+    let (answer, planned) = pair.plan(Wanted::largest(page, caps), header)?;
     let byte = bytes(scope_byte(page))[due as usize];
-    let wanted = (if due == NONE { SUCCESS } else { BAD_HEADER }, due, byte);
-    let told = (answer, fields[5], u16::from_le_bytes([fields[6], fields[7]]));
-    let silent = fields[..5] == [0; 5] && fields[8..] == [0; 148];
-    hold(told == wanted && silent == (due != NONE), || {
+    let nothing = page == CONTROLLER_PAGE && header.get(382) == Some(&0);
+    let answer_due = if due != NONE {
+        BAD_HEADER
+    } else if nothing {
+        NOTHING
+    } else {
+        SUCCESS
+    };
+    let wanted = (answer_due, due, byte);
+    let told = (answer, planned[5], u16::from_le_bytes([planned[6], planned[7]]));
+    let silent = planned[..5] == [0; 5] && planned[8..] == [0; PLANNED_BYTES - 8];
+    hold(told == wanted && silent == (answer_due != SUCCESS), || {
         let parts = [&header[..header.len().min(20)], header.get(380..383).unwrap_or(&[])].map(hex);
-        format!("{page:02X}h, DA4S {da4s}, {} bytes {parts:?}: {told:?}, due is {wanted:?}", header.len())
+        format!("{page:02X}h, caps {caps}, {} bytes {parts:?}: {told:?}, due is {wanted:?}", header.len())
     })
 }
 
-/// Every set of faults at a check, at the right length and at others, and where the page asked for is neither.
-pub fn checks(pair: &mut Pair, random: &mut Random) -> Same<()> {
+/// Every set of faults at a plan, at the right length and at others, and where the page asked for is neither.
+pub fn plans(pair: &mut Pair, random: &mut Random) -> Same<()> {
     for (page, da4s) in SIDES {
         let mut met = BTreeSet::new();
         for shown in shown(random, page, da4s) {
-            let (flag, due) = (random.flag(da4s), shown.due());
+            let (caps, due) = (caps(random, da4s), shown.due());
             let Shown { header, faults } = shown;
-            check(pair, page, flag, &header, due)?;
-            check(pair, page, flag, &header[..511], LENGTH)?;
-            check(pair, page, flag, &[&header[..], &[page]].concat(), LENGTH)?;
-            check(pair, page, flag, &header[..random.up_to(510) as usize], LENGTH)?;
+            find(pair, page, caps, &header, due)?;
+            find(pair, page, caps, &header[..511], LENGTH)?;
+            find(pair, page, caps, &[&header[..], &[page]].concat(), LENGTH)?;
+            find(pair, page, caps, &header[..random.up_to(510) as usize], LENGTH)?;
             met.insert([&[LENGTH], &faults[..]].concat());
             met.insert(faults);
             other_pages(pair, random, da4s, header)?;
         }
-        check(pair, page, random.flag(da4s), &[], LENGTH)?;
+        find(pair, page, caps(random, da4s), &[], LENGTH)?;
         all_were_met(page, &met)?;
     }
     Ok(())
 }
 
-/// A header that is asked for as a page that is neither, whether it says that it is that page or not.
+/// A header that is asked for as a page that is neither, whether it says that it is that page or not: by setup's limits 13, before anything that
+/// is at fault in it, and nothing is told.
 fn other_pages(pair: &mut Pair, random: &mut Random, da4s: bool, mut header: Vec<u8>) -> Same<()> {
     let any = random.byte();
     let asked = random.pick(&[0x00, 0x06, 0x09, 0x0F, 0x87, 0x88, any | 0x10]);
     if random.chance(60) {
         header[0] = asked;
     }
-    let flag = random.flag(da4s);
-    check(pair, asked, flag, &header, IDENTIFIER)?;
+    let wanted = Wanted::largest(asked, caps(random, da4s));
+    let due = (BAD_SETUP, [0; PLANNED_BYTES]);
+    let given = pair.plan(wanted, &header)?;
+    hold(given == due, || format!("asked for as {asked:02X}h: {given:?}"))?;
     header.resize(random.pick(&[0, 511, 513]), asked);
-    check(pair, asked, flag, &header, LENGTH)
+    let given = pair.plan(wanted, &header)?;
+    hold(given == due, || format!("asked for as {asked:02X}h, {} bytes: {given:?}", header.len()))
 }
 
 /// Each fault was met alone, and each two of them with no third, but for those that cannot be.
@@ -246,8 +265,8 @@ pub fn field_bytes(pair: &mut Pair, _: &mut Random) -> Same<()> {
 }
 
 /// A collection of one block or of none, for headers of a page.
-fn plan(random: &mut Random, page: u8, da4s: bool) -> Setup {
-    let caps = EXTENDED | TELEMETRY | random.pick(&[0, ETDAS, MCDAS, ETDAS | MCDAS]) | if da4s { DA4S } else { 0 };
+fn one_block(random: &mut Random, page: u8, da4s: bool) -> Setup {
+    let caps = caps(random, da4s);
     let create = page == HOST_PAGE && random.chance(50);
     Setup { page, create: random.flag(create), area: 1, caps, chunk: 1, attempts: 2, room: 512 }
 }
@@ -283,7 +302,7 @@ fn told(next: &[u8; NEXT_BYTES]) -> [u8; 4] {
 /// Every set of faults at first headers and at later ones: the ending has the first of them, and nothing else ever has one.
 pub fn collections(pair: &mut Pair, random: &mut Random) -> Same<()> {
     for (page, da4s) in SIDES {
-        let setup = plan(random, page, da4s);
+        let setup = one_block(random, page, da4s);
         for awaiting in awaiting(pair, random, setup)? {
             for shown in shown(random, page, da4s) {
                 one_header(pair, awaiting, &shown)?;
@@ -367,23 +386,31 @@ fn is_good(page: u8, da4s: bool, header: &[u8]) -> bool {
     }
 }
 
-/// Headers near the limits, at a check and in a collection, which hands the check's field on.
+/// Headers near the limits, at a plan and in a collection, which tells the same field.
 pub fn near_limits(pair: &mut Pair, random: &mut Random) -> Same<()> {
     let (page, da4s) = random.pick(&SIDES);
     let any = random.byte();
     let asked = if random.chance(5) { any } else { page };
     let mut header = near_header(random, page);
-    let setup = plan(random, page, da4s);
+    let setup = one_block(random, page, da4s);
     let mut state = header_state(setup, random.pick(&[0, 2, 3]), 1, header[383], [1, 1, 1, 1]);
-    let (_, fields) = pair.check(page, random.flag(da4s), &header)?;
+    let (_, planned) = pair.plan(Wanted::largest(page, setup.caps), &header)?;
     let next = pair.step(&mut state, 1, &header, &mut vec![0xDD; BLOCK])?;
-    hold(next[3] == fields[5] && (next[1] == BAD_HEADER) == (next[3] != NONE), || {
-        format!("the check's field is {}, the collection's {next:?}", fields[5])
+    hold(next[3] == planned[5] && (next[1] == BAD_HEADER) == (next[3] != NONE), || {
+        format!("the plan's field is {}, the collection's {next:?}", planned[5])
     })?;
     if random.chance(10) {
         header.resize(random.pick(&[0, 1, 511, 513, 1_024]), page);
     }
-    let (answer, fields) = pair.check(asked, random.flag(da4s), &header)?;
+    let (answer, planned) = pair.plan(Wanted::largest(asked, caps(random, da4s)), &header)?;
     let good = is_good(asked, da4s, &header);
-    hold((answer == SUCCESS) == good && (fields[5] == NONE) == good, || format!("whether a header is good: {good}"))
+    let due = match asked {
+        _ if good && asked == CONTROLLER_PAGE && header[382] == 0 => NOTHING,
+        _ if good => SUCCESS,
+        HOST_PAGE | CONTROLLER_PAGE => BAD_HEADER,
+        _ => BAD_SETUP,
+    };
+    hold(answer == due && (planned[5] != NONE) == (due == BAD_HEADER), || {
+        format!("whether a header is good: {good}, the plan gives {answer}, due is {due}")
+    })
 }

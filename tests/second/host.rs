@@ -1,5 +1,5 @@
-//! The host side: header check, command builder and the collection.
-//! Written from document 01, section "Host: header check and collection", and document 02, Q-1, Q-2 and Q-14.
+//! The host side: header check, plan, command builder and the collection.
+//! Written from document 01, section "Host: header check and collection", and document 02, Q-1, Q-2, Q-4 and Q-14.
 
 use crate::rules::*;
 
@@ -218,6 +218,40 @@ impl Plan {
         }
         None
     }
+}
+
+/// What a plan gives: what the header says, and the length of the chunk list.
+#[derive(Clone, Debug, PartialEq, Eq)]
+pub struct Planned {
+    pub fields: Fields,
+    pub chunks: u32,
+}
+
+/// The header check and the first plan in one. Refusals: 13 and 6 by setup's limits, of which those of create and attempts do not apply, since
+/// neither is asked for; then, as at a first header, 7 with what is at fault, 11, 8.
+pub fn plan_from_header(
+    page: u8,
+    header: &[u8],
+    capabilities: Capabilities,
+    area: u8,
+    chunk: u32,
+    room: u64,
+) -> Result<Planned, (u8, Option<Fault>)> {
+    let plan = Plan { page, create: false, area, capabilities, chunk, attempts: 1, room };
+    if let Some(answer) = plan.refusal() {
+        return Err((answer, None));
+    }
+    let fields = check_header(page, capabilities.da4s, header).map_err(|fault| (BAD_HEADER, Some(fault)))?;
+    if page == CONTROLLER_PAGE && fields.available == 0 {
+        return Err((NOTHING, None));
+    }
+    let wanted = fields.last[area as usize - 1];
+    if bytes_of(wanted) > room {
+        return Err((NO_ROOM, None));
+    }
+    // The blocks that stand before each chunk.
+    let chunk_list = (0..wanted).step_by(chunk as usize);
+    Ok(Planned { fields, chunks: chunk_list.len() as u32 })
 }
 
 /// Begins a collection. A refused setup gives an ended one that has sent nothing.

@@ -56,7 +56,7 @@ impl Lent {
         self.slice().pointer
     }
 
-    fn bytes(&self) -> &[u8] {
+    pub fn bytes(&self) -> &[u8] {
         &self.all()[self.start..self.start + self.length]
     }
 

@@ -1,10 +1,19 @@
 //! The library under test: the functions of `bumbazeel.h`, on lent bytes.
 
-use crate::boundary::Setup;
+use crate::boundary::{Setup, Wanted};
 use crate::lent::{Lent, Slice};
 
 extern "C" {
-    fn bumbazeel_check(page: u8, da4s: u8, header: *const u8, bytes: usize, fields: *mut u8) -> u8;
+    fn bumbazeel_plan(
+        page: u8,
+        area: u8,
+        caps: u8,
+        chunk: u32,
+        room: usize,
+        header: *const u8,
+        bytes: usize,
+        planned: *mut u8,
+    ) -> u8;
     fn bumbazeel_field_byte(page: u8, field: u8) -> u16;
     fn bumbazeel_words(page: u8, create: u8, mcda: u8, rae: u8, offset: u32, blocks: u32, words: *mut u8) -> u8;
     fn bumbazeel_setup(
@@ -70,9 +79,9 @@ extern "C" {
 // Each call below is sound if the library keeps to its header file: every pointer comes from bytes that are lent for the call alone,
 // with their own length, and structs are aligned.
 
-pub fn check(page: u8, da4s: u8, header: &mut Lent, fields: &mut Lent) -> u8 {
-    let header = header.slice();
-    unsafe { bumbazeel_check(page, da4s, header.pointer, header.length, fields.pointer()) }
+pub fn plan(w: Wanted, header: &mut Lent, planned: &mut Lent) -> u8 {
+    let (header, planned) = (header.slice(), planned.pointer());
+    unsafe { bumbazeel_plan(w.page, w.area, w.caps, w.chunk, w.room as usize, header.pointer, header.length, planned) }
 }
 
 pub fn field_byte(page: u8, field: u8) -> u16 {

@@ -17,6 +17,7 @@ mod library;
 mod orders;
 mod outside;
 mod pair;
+mod plans;
 mod random;
 mod rules;
 mod runs;
@@ -39,7 +40,7 @@ struct Kind {
     case: Case,
 }
 
-const KINDS: [Kind; 48] = [
+const KINDS: [Kind; 54] = [
     Kind { name: "01: rows of a page", share: 0, case: outside::page_rows },
     Kind { name: "01: rows of trimming", share: 0, case: outside::trimming_rows },
     Kind { name: "01: rows and listing", share: 0, case: outside::collection_rows },
@@ -55,6 +56,7 @@ const KINDS: [Kind; 48] = [
     Kind { name: "004: identifiers", share: 0, case: outside::identifier_table },
     Kind { name: "02: a commit in a run", share: 0, case: outside::commit_in_a_run },
     Kind { name: "02: which field", share: 0, case: outside::which_field },
+    Kind { name: "02: check and plan in one", share: 0, case: outside::check_and_plan },
     Kind { name: "02: attempts", share: 0, case: outside::attempts_table },
     Kind { name: "02: attempts used up", share: 0, case: outside::attempts_used_up },
     Kind { name: "02: mixed copies", share: 0, case: outside::mixed_copies },
@@ -62,14 +64,19 @@ const KINDS: [Kind; 48] = [
     Kind { name: "statuses", share: 0, case: singles::statuses },
     Kind { name: "drops and store lengths", share: 0, case: singles::store_lengths },
     Kind { name: "bytes of fields", share: 0, case: faults::field_bytes },
-    Kind { name: "faults at checks", share: 0, case: faults::checks },
+    Kind { name: "faults at plans", share: 0, case: faults::plans },
     Kind { name: "faults in collections", share: 0, case: faults::collections },
+    Kind { name: "limits of plans", share: 0, case: plans::limits },
+    Kind { name: "order of plans", share: 0, case: plans::orders },
+    Kind { name: "long lists of chunks", share: 0, case: plans::long_lists },
     Kind { name: "scripted runs", share: 0, case: runs::scripts },
     Kind { name: "limits of areas", share: 0, case: large::limits },
     Kind { name: "large copies", share: 1, case: large::copies },
     Kind { name: "fresh records", share: 200, case: singles::fresh },
     Kind { name: "headers", share: 1_000, case: singles::headers },
     Kind { name: "headers near the limits", share: 1_000, case: faults::near_limits },
+    Kind { name: "plans", share: 2_000, case: plans::plans },
+    Kind { name: "plans and collections", share: 600, case: plans::collections },
     Kind { name: "builder", share: 1_000, case: singles::builder },
     Kind { name: "setups", share: 500, case: singles::setups },
     Kind { name: "damaged records", share: 600, case: singles::damaged },
@@ -233,7 +240,7 @@ impl Session {
         let seconds = self.begun.elapsed().as_secs_f64();
         println!("cases of each kind:");
         for (index, fare) in self.fares.iter().enumerate().filter(|(_, fare)| fare.cases > 0) {
-            println!("  {:<24} {:>9}{}", KINDS[index].name, fare.cases, if fare.failed { "  FAILED" } else { "" });
+            println!("  {:<25} {:>9}{}", KINDS[index].name, fare.cases, if fare.failed { "  FAILED" } else { "" });
         }
         self.pair.seen.print();
         let cases = self.cases();

@@ -9,7 +9,7 @@ use crate::rules::*;
 use crate::singles;
 
 /// The first answer of an order whose rule is broken, or 0.
-fn first(order: &[(u8, bool)]) -> u8 {
+pub fn first(order: &[(u8, bool)]) -> u8 {
     order.iter().find(|(_, broken)| *broken).map_or(SUCCESS, |(answer, _)| *answer)
 }
 
@@ -260,7 +260,7 @@ pub fn steps(pair: &mut Pair, random: &mut Random) -> Same<()> {
 }
 
 /// Breaks a header in a way that leaves TCDA, generation and the wanted area.
-fn break_header(random: &mut Random, page: u8, header: &mut [u8]) {
+pub fn break_header(random: &mut Random, page: u8, header: &mut [u8]) {
     match random.up_to(2) {
         0 => header[0] = random.pick(&[0, 9, 15 - page]),
         1 => header[if page == HOST_PAGE { 380 } else { 381 }] |= random.pick(&[4, 128]),

@@ -1,7 +1,7 @@
 //! Vectors from outside: the rows and the listing of document 01, the stories of document 02, and tables of documents 000 to 004, typed in
 //! from there. Each check holds the pair to the table, so it is an opinion that neither the library nor the second opinion had a hand in.
 
-use crate::boundary::{get_u32, get_u64, put_u64, Setup, ENDED, RECORD_BYTES, REFUSED, SEND};
+use crate::boundary::{get_u32, get_u64, put_u64, Setup, Wanted, ENDED, PLANNED_BYTES, RECORD_BYTES, REFUSED, SEND};
 use crate::generate::{self, asked_bytes, at, DA4S, ETDAS, EXTENDED, MCDAS, TELEMETRY};
 use crate::orders::header_state;
 use crate::pair::{hex, Difference, Offer, Pair, Same, World};
@@ -232,7 +232,7 @@ pub fn header_tables(pair: &mut Pair, _: &mut Random) -> Same<()> {
 
 /// The fields that the host reads from the headers above.
 fn fields_are_read(pair: &mut Pair, page: u8, header: &[u8]) -> Same<()> {
-    let (answer, fields) = pair.check(page, 1, header)?;
+    let (answer, fields) = pair.plan(Wanted::largest(page, ALL), header)?;
     let host = page == 7;
     hold(answer == 0, "the header is good")?;
     hold(
@@ -243,13 +243,14 @@ fn fields_are_read(pair: &mut Pair, page: u8, header: &[u8]) -> Same<()> {
     let last = [12, 16, 20, 24].map(|at| get_u32(&fields, at));
     let due = if host { [0x0102, 0x0304, 0x0506, 0x0708] } else { [0x010A, 0x020B, 0x030C, 0x040D] };
     hold(last == due, "last blocks")?;
-    hold(fields[28..] == [if host { 0xC7 } else { 0xC8 }; 128], "reason")
+    hold(fields[28..156] == [if host { 0xC7 } else { 0xC8 }; 128], "reason")?;
+    hold(get_u32(&fields, 156) == last[3], "a chunk for each block of the greatest area")
 }
 
-/// A check's answer, and the field at fault with the byte at which it starts.
-fn at_fault(pair: &mut Pair, page: u8, da4s: u8, header: &[u8]) -> Same<(u8, u8, u16)> {
-    let (answer, fields) = pair.check(page, da4s, header)?;
-    Ok((answer, fields[5], u16::from_le_bytes([fields[6], fields[7]])))
+/// The largest plan's answer, and the field at fault with the byte at which it starts.
+fn at_fault(pair: &mut Pair, page: u8, caps: u8, header: &[u8]) -> Same<(u8, u8, u16)> {
+    let (answer, planned) = pair.plan(Wanted::largest(page, caps), header)?;
+    Ok((answer, planned[5], u16::from_le_bytes([planned[6], planned[7]])))
 }
 
 /// Document 001, table of the scope field, and document 01: above 2 is bad.
@@ -261,7 +262,7 @@ pub fn scope_table(pair: &mut Pair, _: &mut Random) -> Same<()> {
             header[byte] = scope;
             // 00h not reported, 01h controller, 02h NVM subsystem, 03h to FFh reserved
             let due = if scope <= 2 { (0, 0, 0) } else { (7, 6, byte as u16) };
-            hold(at_fault(pair, page as u8, 1, &header)? == due, &format!("scope {scope} on {page:02}h: {due:?}"))?;
+            hold(at_fault(pair, page as u8, ALL, &header)? == due, &format!("scope {scope} on {page:02}h: {due:?}"))?;
         }
     }
     Ok(())
@@ -571,15 +572,15 @@ fn half_copy(pair: &mut Pair, opening: &[u8], first_half: &[u8], closing: &[u8])
 /// the next one is told; TCDA over 1 is told in the place of available but empty.
 pub fn which_field(pair: &mut Pair, _: &mut Random) -> Same<()> {
     for (page, scope) in [(7, 380), (8, 381)] {
-        for da4s in [0, 1] {
+        for caps in [ALL, ALL & !ETDAS, ALL & !DA4S] {
             let mut header = vec![0; 513];
             header[0] = 15 - page;
             header[8..20].copy_from_slice(&[3, 0, 2, 0, 0, 0, 0, 0, 1, 0, 16, 0]); // areas 3, 2, 0 and 1,048,577
             header[380..383].copy_from_slice(&[3, 3, 1]);
-            let name = format!("page {page:02}h, DA4S {da4s}");
+            let name = format!("page {page:02}h, caps {caps}");
             let mut told = |header: &[u8], field: u8, byte: u16, row: &str| {
                 let due = (if field == 0 { 0 } else { 7 }, field, byte);
-                hold(at_fault(pair, page, da4s, header)? == due, &format!("{name}, {row}: {due:?}"))
+                hold(at_fault(pair, page, caps, header)? == due, &format!("{name}, {row}: {due:?}"))
             };
             told(&header, 1, 0, "513 bytes with a wrong identifier: length")?;
             told(&header[..511], 1, 0, "511 bytes: length")?;
@@ -604,9 +605,85 @@ pub fn which_field(pair: &mut Pair, _: &mut Random) -> Same<()> {
             header[382] = 1;
             let (empty, byte) = if page == 8 { (8, 12) } else { (0, 0) };
             told(&header, empty, byte, "available but empty, which 07h may be")?;
-            header[382] = 0;
+            header[12] = 1;
+            header[16] = (caps & DA4S != 0) as u8;
             told(&header, 0, 0, "a good header")?;
+            header[382] = 0;
+            let due = (if page == 8 { 11 } else { 0 }, 0, 0);
+            hold(at_fault(pair, page, caps, &header)? == due, &format!("{name}, no data available: {due:?}"))?;
         }
+    }
+    Ok(())
+}
+
+/// A row of a plan: what is wanted, the header's last blocks and TCDA, and the answer with the number of chunks.
+type PlanRow = (&'static str, Wanted, LastBlocks, u8, (u8, u32));
+
+/// Document 02, Q-4: a plan "takes the page, the header, the capabilities, the wanted area, c and the room, and gives the fields with the chunk
+/// list's length, or the refusal". "Refusals: 13 and 6 by setup's limits, then 7, 11, 8 as at a first header."
+pub fn check_and_plan(pair: &mut Pair, _: &mut Random) -> Same<()> {
+    let listed = Wanted { page: 8, area: 3, caps: ALL, chunk: 3, room: 9 * 512 };
+    let four = Wanted { area: 4, ..listed };
+    let no_area_4 = Wanted { caps: ALL & !ETDAS, ..four };
+    let bad = [5, 4, 7, 8];
+    let rows: [PlanRow; 26] = [
+        ("the whole listing of document 01", listed, [1, 4, 7, 8], 1, (0, 3)),
+        ("the same on 07h", Wanted { page: 7, ..listed }, [1, 4, 7, 8], 1, (0, 3)),
+        ("area 2 of it", Wanted { area: 2, ..listed }, [1, 4, 7, 8], 1, (0, 2)),
+        ("area 1 of it", Wanted { area: 1, ..listed }, [1, 4, 7, 8], 1, (0, 1)),
+        ("area 4 of it", four, [1, 4, 7, 8], 1, (0, 3)),
+        ("c divides B", listed, [1, 4, 9, 9], 1, (0, 3)),
+        ("c is B", Wanted { chunk: 7, ..listed }, [1, 4, 7, 8], 1, (0, 1)),
+        ("c is over B", Wanted { chunk: 8_192, ..listed }, [1, 4, 7, 8], 1, (0, 1)),
+        ("a block a command", Wanted { chunk: 1, ..listed }, [1, 4, 7, 8], 1, (0, 7)),
+        ("B = 0", Wanted { area: 1, ..listed }, [0, 4, 7, 8], 1, (0, 0)),
+        ("B = 0 into no room", Wanted { area: 1, room: 0, ..listed }, [0, 4, 7, 8], 1, (0, 0)),
+        ("07h without data, which TCDA does not tell", Wanted { page: 7, ..listed }, [0; 4], 0, (0, 0)),
+        ("the room is the area", Wanted { room: 7 * 512, ..listed }, [1, 4, 7, 8], 1, (0, 3)),
+        ("a block less", Wanted { room: 6 * 512, ..listed }, [1, 4, 7, 8], 1, (8, 0)),
+        ("area 4 is larger than the copy, and is not wanted", listed, [1, 4, 7, 99], 1, (0, 3)),
+        ("area 4 at its limit", Wanted::largest(8, ALL), [0, 0, 1, 1_048_576], 1, (0, 1_048_576)),
+        (
+            "in the fewest commands",
+            Wanted { chunk: 8_192, ..Wanted::largest(8, ALL) },
+            [0, 0, 1, 1_048_576],
+            1,
+            (0, 128),
+        ),
+        (
+            "one block a command less",
+            Wanted { chunk: 8_191, ..Wanted::largest(8, ALL) },
+            [0, 0, 1, 1_048_576],
+            1,
+            (0, 129),
+        ),
+        ("08h, TCDA 0", listed, [1, 4, 7, 8], 0, (11, 0)),
+        ("08h, TCDA 0 and too large", Wanted { room: 512, ..listed }, [1, 4, 7, 8], 0, (11, 0)),
+        ("a bad header, TCDA 0 and too large", Wanted { room: 512, ..listed }, bad, 0, (7, 0)),
+        ("w = 4 without ETDAS", no_area_4, [1, 4, 7, 8], 1, (6, 0)),
+        ("bad header and w = 4 without ETDAS", no_area_4, bad, 1, (6, 0)),
+        ("the same, TCDA 0 and too large", Wanted { room: 512, ..no_area_4 }, bad, 0, (6, 0)),
+        ("everything wrong", Wanted { room: 511, ..no_area_4 }, bad, 0, (13, 0)),
+        (
+            "everything wrong, and every limit broken",
+            Wanted { page: 9, area: 5, caps: 32, chunk: 0, room: 1 },
+            bad,
+            2,
+            (13, 0),
+        ),
+    ];
+    for (row, wanted, last, available, due) in rows {
+        let mut header = vec![0; 512];
+        header[0] = wanted.page;
+        for (place, blocks) in [8, 10, 12].into_iter().zip(last) {
+            header[place..place + 2].copy_from_slice(&(blocks as u16).to_le_bytes());
+        }
+        header[16..20].copy_from_slice(&last[3].to_le_bytes());
+        header[382] = available;
+        let (answer, planned) = pair.plan(wanted, &header)?;
+        hold((answer, get_u32(&planned, 156)) == due, &format!("{row}: {due:?}"))?;
+        let silent = planned[..5] == [0; 5] && planned[8..] == [0; PLANNED_BYTES - 8];
+        hold(silent == (answer != 0) && (planned[5..8] == [0; 3]) == (answer != 7), &format!("{row}: what is told"))?;
     }
     Ok(())
 }

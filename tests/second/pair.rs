@@ -1,7 +1,7 @@
 //! The pair: every call goes to the library and to the second opinion on the same bytes, and every lent byte is compared afterwards,
 //! those that may not be written among them.
 
-use crate::boundary::{self, Setup, FIELDS_BYTES, NEXT_BYTES, RECORD_BYTES, SEND, STATE_BYTES};
+use crate::boundary::{self, Setup, Wanted, NEXT_BYTES, PLANNED_BYTES, RECORD_BYTES, SEND, STATE_BYTES};
 use crate::controller::Candidate;
 use crate::lent::Lent;
 use crate::library::{self, Loan};
@@ -141,21 +141,22 @@ impl Pair {
         Ok(want)
     }
 
-    pub fn check(&mut self, page: u8, da4s: u8, header: &[u8]) -> Same<(u8, [u8; FIELDS_BYTES])> {
+    pub fn plan(&mut self, wanted: Wanted, header: &[u8]) -> Same<(u8, [u8; PLANNED_BYTES])> {
         let mut lent = self.lend(header);
-        let mut fields = Pair::lend_struct(&[STALE; FIELDS_BYTES]);
-        let got = library::check(page, da4s, &mut lent, &mut fields);
-        let mut wanted = [STALE; FIELDS_BYTES];
-        let want = boundary::check(page, da4s, header, &mut wanted);
-        verify((got.into(), want.into()), &[("header", &lent, header), ("fields", &fields, &wanted)], "check", || {
+        let mut planned = Pair::lend_struct(&[STALE; PLANNED_BYTES]);
+        let got = library::plan(wanted, &mut lent, &mut planned);
+        let mut planned_wanted = [STALE; PLANNED_BYTES];
+        let want = boundary::plan(wanted, header, &mut planned_wanted);
+        let parts: [(&str, &Lent, &[u8]); 2] = [("header", &lent, header), ("planned", &planned, &planned_wanted)];
+        verify((got.into(), want.into()), &parts, "plan", || {
             let tail = header.get(380..400).unwrap_or(&[]);
-            format!("  page {page:02X}h da4s {da4s}\n  header {}\n  from 380 {}", hex(header), hex(tail))
+            format!("  {wanted:?}\n  header {}\n  from 380 {}", hex(header), hex(tail))
         })?;
-        self.seen.note(Function::Check, want);
-        if wanted[5] != 0 {
-            self.seen.note_fault(Place::Check, page, wanted[5]);
+        self.seen.note(Function::Plan, want);
+        if planned_wanted[5] != 0 {
+            self.seen.note_fault(Place::Plan, wanted.page, planned_wanted[5]);
         }
-        Ok((want, wanted))
+        Ok((want, planned_wanted))
     }
 
     pub fn field_byte(&mut self, page: u8, field: u8) -> Same<u16> {

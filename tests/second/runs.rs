@@ -42,6 +42,8 @@ struct Run {
     area_at_check: Vec<u8>,
     /// the most chunks that a header called for
     chunks: u64,
+    /// chunks of the plan from the first header
+    planned: u64,
 }
 
 pub fn runs(pair: &mut Pair, random: &mut Random) -> Same<()> {
@@ -150,6 +152,7 @@ fn begin(pair: &mut Pair, random: &mut Random, world: World, setup: Setup, hones
         captures_in_an_attempt: 0,
         area_at_check,
         chunks: 0,
+        planned: 0,
     })
 }
 
@@ -196,11 +199,24 @@ impl Run {
         if random.chance(6) {
             self.unfit_completion(pair, random, ok, &buffer)?;
         }
-        let flag = random.flag(ok);
+        let (flag, phase) = (random.flag(ok), self.state[0]);
         self.next = pair.step(&mut self.state, flag, &buffer, &mut self.copy)?;
         claim(self.next[0] != REFUSED, "a completion that fits is taken")?;
+        if phase == FIRST_HEADER && ok {
+            self.plan(pair, &buffer)?;
+        }
         let wanted = get_u32(&self.state, 36 + 4 * self.setup.area as usize);
         self.chunks = self.chunks.max(wanted.div_ceil(self.setup.chunk) as u64);
+        Ok(())
+    }
+
+    /// The plan from the first header, after the step with it.
+    fn plan(&mut self, pair: &mut Pair, header: &[u8]) -> Same<()> {
+        let (answer, planned) = pair.plan(self.setup.wanted(), header)?;
+        let kind = if answer == SUCCESS { SEND } else { ENDED };
+        claim(self.next[..2] == [kind, answer], "a run answers its first header as a plan does")?;
+        claim(self.next[3] == planned[5], "and tells the same field")?;
+        self.planned = get_u32(&planned, 156) as u64;
         Ok(())
     }
 
@@ -427,6 +443,8 @@ impl Run {
             // However many captures follow the last check: a multiple of 256 is not told.
             let told = controller_page && self.captures_since_header % 256 != 0;
             claim(newer == told, "newer tells of captures between the last check and the acknowledgement")?;
+            let undisturbed = 2 + self.planned + controller_page as u64;
+            claim(k > 0 || count == undisturbed, "an undisturbed run sends as many chunks as were planned")?;
         }
         Ok(())
     }

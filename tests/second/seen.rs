@@ -6,7 +6,7 @@ use crate::rules::{CONTROLLER_PAGE, HOST_PAGE};
 pub enum Function {
     Class,
     Status,
-    Check,
+    Plan,
     Words,
     Fresh,
     Setup,
@@ -23,7 +23,7 @@ const FUNCTIONS: usize = 10;
 const LISTED: [(&str, &[u8]); FUNCTIONS] = [
     ("class", &[0, 1, 2, 3]),
     ("status", &[0, 1, 2, 3]),
-    ("check", &[0, 7]),
+    ("plan", &[0, 6, 7, 8, 11, 13]),
     ("words", &[0, 13]),
     ("fresh", &[0, 4]),
     ("setup", &[6, 13]),
@@ -36,13 +36,13 @@ const LISTED: [(&str, &[u8]); FUNCTIONS] = [
 /// Where a bad header is met.
 #[derive(Clone, Copy)]
 pub enum Place {
-    Check,
+    Plan,
     FirstHeader,
     ClosingHeader,
     AfterRefusal,
 }
 
-const PLACES: [&str; 4] = ["a check", "a first header", "a closing header", "a header after a refused chunk"];
+const PLACES: [&str; 4] = ["a plan", "a first header", "a closing header", "a header after a refused chunk"];
 const PAGES: [u8; 2] = [HOST_PAGE, CONTROLLER_PAGE];
 
 /// The numbers of `bumbazeel.h` for what is at fault go up to this.
@@ -51,7 +51,7 @@ const LAST_FAULT: usize = 8;
 /// Whether such a fault can be met there: other lengths are 15 in a collection, and 07h may be available but empty.
 fn can_be_met(place: usize, page: u8, fault: usize) -> bool {
     match fault {
-        1 => place == Place::Check as usize,
+        1 => place == Place::Plan as usize,
         8 => page == CONTROLLER_PAGE,
         _ => true,
     }
@@ -81,7 +81,7 @@ impl Seen {
         self.answers[function as usize][answer as usize & 15] += 1;
     }
 
-    /// A bad header, for the page asked for. Of a page that is neither it is the length or the identifier, and is not counted.
+    /// A bad header of one of the two pages: no other is judged.
     pub fn note_fault(&mut self, place: Place, page: u8, fault: u8) {
         if let Some(index) = PAGES.iter().position(|named| *named == page) {
             self.faults[place as usize][index][fault as usize] += 1;

@@ -1,6 +1,6 @@
 //! Single calls on random inputs.
 
-use crate::boundary::{Setup, REFUSED};
+use crate::boundary::{Setup, Wanted, REFUSED};
 use crate::generate::{self, at, DA4S, ETDAS, EXTENDED, TELEMETRY};
 use crate::pair::{Difference, Pair, Same, World};
 use crate::random::Random;
@@ -38,27 +38,27 @@ fn page_asked(random: &mut Random) -> u8 {
     random.pick(&[HOST_PAGE, HOST_PAGE, HOST_PAGE, CONTROLLER_PAGE, CONTROLLER_PAGE, CONTROLLER_PAGE, any])
 }
 
-/// Header checks: a good header, then one damage, or another length, page or DA4S.
+/// Largest plans from headers: from a good one, then from one with a damage, or of another length, page or DA4S.
 pub fn headers(pair: &mut Pair, random: &mut Random) -> Same<()> {
     let page = page_asked(random);
-    let da4s = random.chance(50);
+    let caps = EXTENDED | TELEMETRY | random.pick(&[0, ETDAS, DA4S, DA4S | ETDAS]);
+    let da4s = caps & DA4S != 0;
     let last = generate::header_last(random, da4s);
     let mut header = generate::header(random, page, last);
-    let flag = random.flag(da4s);
-    pair.check(page, flag, &header)?;
+    let wanted = Wanted::largest(page, caps);
+    pair.plan(wanted, &header)?;
     for _ in 0..random.pick(&[1, 1, 1, 2]) {
         damage_header(random, page, da4s, &mut header);
     }
-    pair.check(page, flag, &header)?;
+    pair.plan(wanted, &header)?;
     let length = random.up_to(600) as usize;
     let length = random.pick(&[0, 1, 511, 512, 513, 384, length]);
     header.resize(length, page);
-    pair.check(page, flag, &header)?;
-    let other = random.flag(!da4s);
-    pair.check(page, other, &header).map(|_| ())
+    pair.plan(wanted, &header)?;
+    pair.plan(Wanted::largest(page, caps ^ DA4S), &header).map(|_| ())
 }
 
-fn damage_header(random: &mut Random, page: u8, da4s: bool, header: &mut [u8]) {
+pub fn damage_header(random: &mut Random, page: u8, da4s: bool, header: &mut [u8]) {
     let mut last = generate::header_last(random, da4s);
     match random.up_to(9) {
         0 => header[0] = random.pick(&[0, 7, 8, 9, !page]),
