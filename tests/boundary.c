@@ -8,16 +8,17 @@
 
 #define AT(type, field, bytes) BUMBAZEEL_ASSERT(offsetof(struct type, field) == bytes, "offset of " #type "." #field)
 
-AT(bumbazeel_fields, page, 0);
-AT(bumbazeel_fields, scope, 1);
-AT(bumbazeel_fields, host_generation, 2);
-AT(bumbazeel_fields, available, 3);
-AT(bumbazeel_fields, controller_generation, 4);
-AT(bumbazeel_fields, bad_field, 5);
-AT(bumbazeel_fields, bad_byte, 6);
-AT(bumbazeel_fields, oui, 8);
-AT(bumbazeel_fields, last, 12);
-AT(bumbazeel_fields, reason, 28);
+AT(bumbazeel_planned, page, 0);
+AT(bumbazeel_planned, scope, 1);
+AT(bumbazeel_planned, host_generation, 2);
+AT(bumbazeel_planned, available, 3);
+AT(bumbazeel_planned, controller_generation, 4);
+AT(bumbazeel_planned, bad_field, 5);
+AT(bumbazeel_planned, bad_byte, 6);
+AT(bumbazeel_planned, oui, 8);
+AT(bumbazeel_planned, last, 12);
+AT(bumbazeel_planned, reason, 28);
+AT(bumbazeel_planned, chunks, 156);
 
 AT(bumbazeel_state, phase, 0);
 AT(bumbazeel_state, page, 1);
@@ -76,6 +77,33 @@ static int all(const void *bytes, size_t count, uint8_t value) {
         if (((const uint8_t *)bytes)[i] != value)
             return 0;
     return 1;
+}
+
+/* What a plan is asked for besides the header. */
+struct wanted {
+    uint8_t page, area, caps;
+    uint32_t chunk;
+    size_t room;
+};
+
+/* A plan from a header of at most 513 bytes, which stays as it is; *planned is written whole, and is zeros with every answer but 0 and 7. */
+static uint8_t plan(struct wanted w, const uint8_t *header, size_t bytes, struct bumbazeel_planned *planned) {
+    uint8_t before[BLOCK + 1];
+    if (bytes)
+        memcpy(before, header, bytes);
+    memset(planned, 0xff, sizeof *planned);
+    const uint8_t answer = bumbazeel_plan(w.page, w.area, w.caps, w.chunk, w.room, header, bytes, planned);
+    expect(bytes == 0 || !memcmp(before, header, bytes));
+    if (answer != BUMBAZEEL_SUCCESS && answer != BUMBAZEEL_BAD_HEADER)
+        expect(all(planned, sizeof *planned, 0));
+    return answer;
+}
+
+/* The plan that refuses the fewest headers of a page: of the greatest area that the capabilities allow, a block a command, into the largest copy. */
+static struct wanted largest(uint8_t page, uint8_t caps) {
+    const uint8_t both = BUMBAZEEL_DA4S | BUMBAZEEL_ETDAS;
+    struct wanted w = {page, (uint8_t)((caps & both) == both ? 4 : 3), caps, 1, BUMBAZEEL_MOST_ROOM};
+    return w;
 }
 
 /* A controller with stores of four blocks, the candidate that its next create or capture takes, and the last answer's class. */
@@ -167,7 +195,7 @@ static void fresh(void) {
 
 static void controller(void) {
     struct drive d, before;
-    struct bumbazeel_fields fields;
+    struct bumbazeel_planned planned;
     uint32_t ask[5];
     uint8_t buffer[2 * BLOCK];
     begin(&d);
@@ -179,12 +207,12 @@ static void controller(void) {
     expect(command(&d, ask, buffer, sizeof buffer) == BUMBAZEEL_SUCCESS && d.identifier_class == 0);
     expect(d.record.host_generation == 1 && !memcmp(d.record.host_last, d.last, sizeof d.last) && !memcmp(d.record.host_reason, d.reason, 128));
     expect(!memcmp(d.host, d.candidate, sizeof d.host) && all(buffer + BLOCK, BLOCK, 0x55));
-    expect(bumbazeel_check(0x07, 1, buffer, BLOCK, &fields) == BUMBAZEEL_SUCCESS);
-    expect(fields.page == 7 && fields.scope == 1 && fields.host_generation == 1 && fields.available == 0 && fields.controller_generation == 0);
-    expect(fields.bad_field == 0 && fields.bad_byte == 0 && fields.oui == 0x123456);
-    expect(!memcmp(fields.last, d.last, sizeof d.last) && !memcmp(fields.reason, d.reason, 128));
-    expect(bumbazeel_check(0x08, 1, buffer, BLOCK, &fields) == BUMBAZEEL_BAD_HEADER && fields.bad_field == BUMBAZEEL_FIELD_IDENTIFIER);
-    expect(bumbazeel_check(0x07, 1, buffer, BLOCK - 1, &fields) == BUMBAZEEL_BAD_HEADER && fields.bad_field == BUMBAZEEL_FIELD_LENGTH);
+    expect(plan(largest(0x07, CAPS), buffer, BLOCK, &planned) == BUMBAZEEL_SUCCESS && planned.chunks == 4);
+    expect(planned.page == 7 && planned.scope == 1 && planned.host_generation == 1 && planned.available == 0 && planned.controller_generation == 0);
+    expect(planned.bad_field == 0 && planned.bad_byte == 0 && planned.oui == 0x123456);
+    expect(!memcmp(planned.last, d.last, sizeof d.last) && !memcmp(planned.reason, d.reason, 128));
+    expect(plan(largest(0x08, CAPS), buffer, BLOCK, &planned) == BUMBAZEEL_BAD_HEADER && planned.bad_field == BUMBAZEEL_FIELD_IDENTIFIER);
+    expect(plan(largest(0x07, CAPS), buffer, BLOCK - 1, &planned) == BUMBAZEEL_BAD_HEADER && planned.bad_field == BUMBAZEEL_FIELD_LENGTH);
 
     /* blocks 2 and 3 of the area */
     bumbazeel_words(0x07, 0, 0, 1, 2, 2, ask);
@@ -209,9 +237,10 @@ static void controller(void) {
     expect(d.record.available == 1 && d.record.notice == 1 && d.record.controller_generation == 1 && !memcmp(d.controller, d.candidate, sizeof d.controller));
     expect(!memcmp(d.record.controller_last, d.last, sizeof d.last) && !memcmp(d.record.controller_reason, d.reason, 128));
     bumbazeel_words(0x08, 0, 0, 0, 0, 1, ask);
-    expect(command(&d, ask, buffer, sizeof buffer) == BUMBAZEEL_SUCCESS && bumbazeel_check(0x08, 1, buffer, BLOCK, &fields) == BUMBAZEEL_SUCCESS);
-    expect(fields.available == 1 && fields.scope == 2 && fields.controller_generation == 1 && fields.host_generation == 0);
+    expect(command(&d, ask, buffer, sizeof buffer) == BUMBAZEEL_SUCCESS && plan(largest(0x08, CAPS), buffer, BLOCK, &planned) == BUMBAZEEL_SUCCESS);
+    expect(planned.available == 1 && planned.scope == 2 && planned.controller_generation == 1 && planned.host_generation == 0);
     expect(d.record.available == 0 && d.record.notice == 0 && all(d.record.controller_last, 16, 0) && d.record.controller_generation == 1);
+    expect(command(&d, ask, buffer, sizeof buffer) == BUMBAZEEL_SUCCESS && plan(largest(0x08, CAPS), buffer, BLOCK, &planned) == BUMBAZEEL_NOTHING);
 
     /* damaged records */
     for (int damage = 0; damage < 4; damage++) {
@@ -243,7 +272,7 @@ static void controller(void) {
 /* A drop zeroes the host's last blocks and reason, and leaves every other byte of the drive. */
 static void drops(void) {
     struct drive d, want;
-    struct bumbazeel_fields fields;
+    struct bumbazeel_planned planned;
     uint32_t ask[5];
     uint8_t buffer[BLOCK];
     begin(&d);
@@ -268,9 +297,9 @@ static void drops(void) {
 
     /* the page is its header, which shows the generation, no areas and no reason */
     bumbazeel_words(0x07, 0, 0, 1, 0, 1, ask);
-    expect(command(&d, ask, buffer, sizeof buffer) == BUMBAZEEL_SUCCESS && bumbazeel_check(0x07, 1, buffer, BLOCK, &fields) == BUMBAZEEL_SUCCESS);
-    expect(fields.host_generation == 255 && fields.available == 1 && fields.controller_generation == 1);
-    expect(all(fields.last, sizeof fields.last, 0) && all(fields.reason, sizeof fields.reason, 0));
+    expect(command(&d, ask, buffer, sizeof buffer) == BUMBAZEEL_SUCCESS && plan(largest(0x07, CAPS), buffer, BLOCK, &planned) == BUMBAZEEL_SUCCESS);
+    expect(planned.host_generation == 255 && planned.available == 1 && planned.controller_generation == 1 && planned.chunks == 0);
+    expect(all(planned.last, sizeof planned.last, 0) && all(planned.reason, sizeof planned.reason, 0));
     bumbazeel_words(0x07, 0, 0, 1, 1, 1, ask);
     expect(command(&d, ask, buffer, sizeof buffer) == BUMBAZEEL_SUCCESS && all(buffer, sizeof buffer, 0));
     bumbazeel_words(0x07, 0, 0, 1, 2, 1, ask);
@@ -365,43 +394,187 @@ static uint16_t starts(int page, int field) {
     return field == BUMBAZEEL_FIELD_SCOPE && page == 0x07 ? 380 : field <= BUMBAZEEL_FIELD_EMPTY ? bytes[field] : 0;
 }
 
-/* A check tells the first field at fault and where it starts, and zeros besides. */
-static void check_finds(uint8_t page, uint8_t da4s, const uint8_t *header, size_t bytes, unsigned faults) {
-    struct bumbazeel_fields fields, want;
-    memset(&fields, 0xff, sizeof fields);
+/* The largest plan tells the first field at fault and where it starts, and zeros besides. Of a good header it tells what it says, but on 08h
+ * without data available. */
+static void plan_finds(uint8_t page, uint8_t caps, const uint8_t *header, size_t bytes, unsigned faults) {
+    const struct wanted w = largest(page, caps);
+    struct bumbazeel_planned planned, want;
     memset(&want, 0, sizeof want);
     want.bad_field = first_of(faults);
     want.bad_byte = starts(page, want.bad_field);
-    uint8_t answer = bumbazeel_check(page, da4s, header, bytes, &fields);
+    uint8_t answer = plan(w, header, bytes, &planned);
     if (faults)
-        expect(answer == BUMBAZEEL_BAD_HEADER && !memcmp(&fields, &want, sizeof fields));
+        expect(answer == BUMBAZEEL_BAD_HEADER && !memcmp(&planned, &want, sizeof planned));
+    else if (page == 0x08 && header[382] == 0)
+        expect(answer == BUMBAZEEL_NOTHING);
     else
-        expect(answer == BUMBAZEEL_SUCCESS && fields.bad_field == 0 && fields.bad_byte == 0 && fields.page == page);
+        expect(answer == BUMBAZEEL_SUCCESS && planned.bad_field == 0 && planned.bad_byte == 0 && planned.page == page);
+    expect(planned.chunks == planned.last[w.area - 1]); /* a block a command */
 }
 
 /* Each fault alone and every two with no third are among the headers, but for those that cannot be: 07h may be available but empty, and TCDA
- * is not 1 and over 1. Of no bytes only the page asked for can be at fault besides the length. */
-static void faults(uint8_t page, uint8_t da4s) {
+ * is not 1 and over 1. A page that is neither is 13, whatever is at fault. */
+static void faults(uint8_t page, uint8_t caps) {
     static const uint8_t others[] = {0x00, 0x06, 0x09, 0x87, 0xff};
+    struct bumbazeel_planned planned;
     uint8_t header[BLOCK + 1], met[1 << 9] = {0};
     for (unsigned number = 0; number < SHOWN; number++) {
-        const unsigned at_fault = show(header, page, da4s, number);
+        const unsigned at_fault = show(header, page, caps & BUMBAZEEL_DA4S, number);
         header[BLOCK] = page;
-        check_finds(page, da4s, header, BLOCK, at_fault);
-        check_finds(page, da4s, header, BLOCK - 1, at_fault | FAULT(LENGTH));
-        check_finds(page, da4s, header, BLOCK + 1, at_fault | FAULT(LENGTH));
+        plan_finds(page, caps, header, BLOCK, at_fault);
+        plan_finds(page, caps, header, BLOCK - 1, at_fault | FAULT(LENGTH));
+        plan_finds(page, caps, header, BLOCK + 1, at_fault | FAULT(LENGTH));
         met[at_fault] = met[at_fault | FAULT(LENGTH)] = 1;
         header[0] = others[number % sizeof others]; /* the page asked for, which is neither */
-        check_finds(header[0], da4s, header, BLOCK, FAULT(IDENTIFIER));
-        check_finds(header[0], da4s, header, BLOCK + 1, FAULT(LENGTH) | FAULT(IDENTIFIER));
+        expect(plan(largest(header[0], caps), header, BLOCK, &planned) == BUMBAZEEL_BAD_SETUP);
+        expect(plan(largest(header[0], caps), header, BLOCK + 1, &planned) == BUMBAZEEL_BAD_SETUP);
     }
-    check_finds(page, da4s, NULL, 0, FAULT(LENGTH));
-    check_finds(0x09, da4s, NULL, 0, FAULT(LENGTH) | FAULT(IDENTIFIER));
+    plan_finds(page, caps, NULL, 0, FAULT(LENGTH));
+    expect(plan(largest(0x09, caps), NULL, 0, &planned) == BUMBAZEEL_BAD_SETUP);
     for (int first = BUMBAZEEL_FIELD_LENGTH; first <= BUMBAZEEL_FIELD_EMPTY; first++)
         for (int second = first; second <= BUMBAZEEL_FIELD_EMPTY; second++) {
             int can_be = second != BUMBAZEEL_FIELD_EMPTY || (page == 0x08 && first != BUMBAZEEL_FIELD_AVAILABLE);
             expect(met[1u << first | 1u << second] == can_be);
         }
+}
+
+/* Blocks of an area, blocks a command, and how many commands bring them. */
+static const struct {
+    uint32_t blocks, chunk, chunks;
+} lists[] = {
+    {0, 1, 0},
+    {0, 8192, 0},
+    {1, 1, 1},
+    {1, 8192, 1},
+    {2, 1, 2},
+    {2, 2, 1},
+    {7, 3, 3},
+    {9, 3, 3},
+    {10, 3, 4},
+    {8191, 8192, 1},
+    {8192, 8192, 1},
+    {8193, 8192, 2},
+    {65535, 1, 65535},
+    {65535, 8191, 9},
+    {65536, 1, 65536},
+    {65536, 256, 256},
+    {65537, 256, 257},
+    {1048575, 2, 524288},
+    {1048576, 1, 1048576},
+    {1048576, 8191, 129},
+    {1048576, 8192, 128},
+};
+
+/* A header with data available, whose area 4 has so many blocks, and areas 1 to 3 as many of them as they can have. */
+static void show_blocks(uint8_t *header, uint8_t page, uint32_t blocks) {
+    const uint32_t most = BUMBAZEEL_LAST_OF_AREA_3, third = blocks < most ? blocks : most;
+    memset(header, 0, BLOCK);
+    header[0] = page;
+    for (int at = 8; at < 14; at++)
+        header[at] = (uint8_t)(third >> at % 2 * 8);
+    for (int i = 0; i < 4; i++)
+        header[16 + i] = (uint8_t)(blocks >> 8 * i);
+    header[382] = 1;
+}
+
+/* The chunks of a plan, with a room that is just the area; of a block less it is 8. */
+static void plan_lists(uint8_t page) {
+    for (size_t i = 0; i < sizeof lists / sizeof *lists; i++) {
+        const uint32_t blocks = lists[i].blocks;
+        struct bumbazeel_planned planned;
+        uint8_t header[BLOCK];
+        show_blocks(header, page, blocks);
+        if (blocks == 0)
+            header[382] = page == 0x07; /* on 08h an area 3 without a block is not available */
+        for (uint8_t area = 1; area <= 4; area++) {
+            struct wanted w = {page, area, CAPS, lists[i].chunk, (size_t)blocks * BLOCK};
+            if (area < 4 && blocks > BUMBAZEEL_LAST_OF_AREA_3)
+                continue;
+            if (header[382] == 0) {
+                expect(plan(w, header, BLOCK, &planned) == BUMBAZEEL_NOTHING);
+                continue;
+            }
+            expect(plan(w, header, BLOCK, &planned) == BUMBAZEEL_SUCCESS && planned.chunks == lists[i].chunks);
+            expect(planned.page == page && planned.last[3] == blocks && planned.available == 1);
+            if (blocks == 0)
+                continue;
+            w.room -= BLOCK;
+            expect(plan(w, header, BLOCK, &planned) == BUMBAZEEL_NO_ROOM);
+        }
+    }
+}
+
+/* 13 for each of setup's limits that is broken, 6, 7, 11, 8, 0: all is wrong at first, and is mended in this order. */
+static void plan_order(void) {
+    static const uint8_t bad_pages[] = {0x00, 0x06, 0x09, 0x18, 0xff}, bad_areas[] = {0, 5, 255}, bad_caps[] = {1, 2, 17, 30, 29, 32, 63, 128, 255};
+    static const uint32_t bad_chunks[] = {0, 8193, 65537, 0xffffffff};
+    static const size_t bad_rooms[] = {1, 511, 513, 536870911, 536870913, 536871424, (size_t)1 << 32, (size_t)0 - 512, (size_t)0 - 1};
+    const struct wanted wrong = {0x08, 4, CAPS & ~BUMBAZEEL_ETDAS, 2, BLOCK};
+    struct wanted w;
+    struct bumbazeel_planned planned;
+    uint8_t header[BLOCK];
+    show_blocks(header, 0x08, 2);
+    header[381] = 3; /* scope */
+    header[382] = 0;
+    for (size_t i = 0; i < sizeof bad_pages; i++) {
+        w = wrong;
+        w.page = bad_pages[i];
+        expect(plan(w, header, BLOCK, &planned) == BUMBAZEEL_BAD_SETUP);
+    }
+    for (size_t i = 0; i < sizeof bad_areas; i++) {
+        w = wrong;
+        w.area = bad_areas[i];
+        expect(plan(w, header, BLOCK, &planned) == BUMBAZEEL_BAD_SETUP);
+    }
+    for (size_t i = 0; i < sizeof bad_caps; i++) {
+        w = wrong;
+        w.caps = bad_caps[i];
+        expect(plan(w, header, BLOCK, &planned) == BUMBAZEEL_BAD_SETUP);
+    }
+    for (size_t i = 0; i < sizeof bad_chunks / sizeof *bad_chunks; i++) {
+        w = wrong;
+        w.chunk = bad_chunks[i];
+        expect(plan(w, header, BLOCK, &planned) == BUMBAZEEL_BAD_SETUP);
+    }
+    for (size_t i = 0; i < sizeof bad_rooms / sizeof *bad_rooms; i++) {
+        w = wrong;
+        w.room = bad_rooms[i];
+        expect(plan(w, header, BLOCK, &planned) == BUMBAZEEL_BAD_SETUP);
+    }
+    w = wrong;
+    expect(plan(w, header, BLOCK, &planned) == BUMBAZEEL_NO_AREA_4 && plan(w, NULL, 0, &planned) == BUMBAZEEL_NO_AREA_4);
+    w.caps = CAPS & ~BUMBAZEEL_DA4S;
+    expect(plan(w, header, BLOCK, &planned) == BUMBAZEEL_NO_AREA_4);
+    w.caps = CAPS;
+    expect(plan(w, NULL, 0, &planned) == BUMBAZEEL_BAD_HEADER && planned.bad_field == BUMBAZEEL_FIELD_LENGTH && planned.bad_byte == 0);
+    expect(plan(w, header, BLOCK, &planned) == BUMBAZEEL_BAD_HEADER && planned.bad_field == BUMBAZEEL_FIELD_SCOPE && planned.bad_byte == 381);
+    header[381] = 2;
+    expect(plan(w, header, BLOCK, &planned) == BUMBAZEEL_NOTHING);
+    header[382] = 1;
+    expect(plan(w, header, BLOCK, &planned) == BUMBAZEEL_NO_ROOM);
+    w.room += BLOCK;
+    expect(plan(w, header, BLOCK, &planned) == BUMBAZEEL_SUCCESS && planned.chunks == 1);
+
+    /* area 4 is judged by DA4S of the capabilities, also where it is not wanted */
+    w.area = 3;
+    expect(plan(w, header, BLOCK, &planned) == BUMBAZEEL_SUCCESS);
+    w.caps = CAPS & ~BUMBAZEEL_ETDAS;
+    expect(plan(w, header, BLOCK, &planned) == BUMBAZEEL_SUCCESS && planned.last[3] == 2);
+    w.caps = CAPS & ~BUMBAZEEL_DA4S;
+    expect(plan(w, header, BLOCK, &planned) == BUMBAZEEL_BAD_HEADER && planned.bad_field == BUMBAZEEL_FIELD_AREA_4);
+
+    /* the wanted area counts, and none beside it: areas of 1 to 4 blocks, a block a command, into so many blocks and into one less */
+    header[8] = 1;
+    header[12] = 3;
+    header[16] = 4;
+    w.caps = CAPS;
+    w.chunk = 1;
+    for (w.area = 1; w.area <= 4; w.area++) {
+        w.room = (size_t)w.area * BLOCK;
+        expect(plan(w, header, BLOCK, &planned) == BUMBAZEEL_SUCCESS && planned.chunks == w.area && planned.last[w.area - 1] == w.area);
+        w.room -= BLOCK;
+        expect(plan(w, header, BLOCK, &planned) == BUMBAZEEL_NO_ROOM);
+    }
 }
 
 static void field_bytes(void) {
@@ -432,7 +605,8 @@ static struct bumbazeel_state awaiting(uint8_t page, uint8_t da4s, uint8_t phase
     return state;
 }
 
-/* Ending 7 has the first field at fault; commands, refusals and other endings have none. Answers which endings there were, as bits. */
+/* Ending 7 has the first field at fault; commands, refusals and other endings have none. A first header is answered as a plan from it is. Answers
+ * which endings there were, as bits. */
 static unsigned faults_in_collections(uint8_t page, uint8_t da4s, uint8_t phase) {
     const struct bumbazeel_state awaits = awaiting(page, da4s, phase);
     unsigned endings = 0;
@@ -451,6 +625,12 @@ static unsigned faults_in_collections(uint8_t page, uint8_t da4s, uint8_t phase)
         else
             expect(next.answer != BUMBAZEEL_BAD_HEADER);
         expect(next.bad_field == first_of(at_fault));
+        if (phase == BUMBAZEEL_AWAITS_FIRST_HEADER) {
+            const struct wanted w = {page, state.area, state.caps, state.chunk, sizeof copy};
+            struct bumbazeel_planned planned;
+            expect(plan(w, header, BLOCK, &planned) == next.answer && planned.bad_field == next.bad_field);
+            expect((kind == BUMBAZEEL_SEND) == (next.answer == BUMBAZEEL_SUCCESS) && (state.phase == BUMBAZEEL_AWAITS_CHUNK) == (planned.chunks == 1));
+        }
         if (kind != BUMBAZEEL_ENDED)
             continue;
         endings |= 1u << next.answer;
@@ -480,7 +660,9 @@ static void collection(uint8_t page, uint8_t create, unsigned commands) {
     struct bumbazeel_state state;
     struct bumbazeel_next next;
     uint8_t buffer[2 * BLOCK], copy[6 * BLOCK];
-    unsigned sent = 0;
+    const struct wanted w = {page, 4, CAPS, 2, sizeof copy};
+    struct bumbazeel_planned planned;
+    unsigned sent = 0, chunks = 0;
     begin(&d);
     if (page == 0x08)
         expect(capture(&d) == BUMBAZEEL_SUCCESS);
@@ -492,14 +674,17 @@ static void collection(uint8_t page, uint8_t create, unsigned commands) {
         size_t bytes = ((next.words[0] >> 16) + 1) * 4;
         expect(bytes <= sizeof buffer && next.answer == 0 && next.newer == 0 && next.count == 0 && next.bad_field == 0);
         sent++;
+        chunks += state.phase == BUMBAZEEL_AWAITS_CHUNK;
         uint8_t answer = command(&d, next.words, buffer, sizeof buffer);
         if (answer != BUMBAZEEL_SUCCESS)
             bytes = 0;
+        if (state.phase == BUMBAZEEL_AWAITS_FIRST_HEADER)
+            expect(plan(w, buffer, BLOCK, &planned) == BUMBAZEEL_SUCCESS && !memcmp(planned.last, d.last, sizeof d.last));
         uint8_t kind = bumbazeel_step(&state, answer == BUMBAZEEL_SUCCESS ? 7 : 0, buffer, bytes, copy, sizeof copy, &next);
         expect(kind == next.kind);
     }
     expect(next.kind == BUMBAZEEL_ENDED && next.answer == BUMBAZEEL_SUCCESS && next.newer == 0 && next.count == commands && sent == commands);
-    expect(all(next.words, sizeof next.words, 0) && state.phase == 5 && state.count == commands);
+    expect(all(next.words, sizeof next.words, 0) && state.phase == 5 && state.count == commands && chunks == planned.chunks);
     expect(!memcmp(copy, d.candidate, sizeof d.candidate) && all(copy + sizeof d.candidate, sizeof copy - sizeof d.candidate, 0));
     struct bumbazeel_state ended = state;
     expect(bumbazeel_step(&state, 1, NULL, 0, copy, sizeof copy, &next) == BUMBAZEEL_REFUSED && next.answer == BUMBAZEEL_ALREADY_ENDED);
@@ -637,25 +822,20 @@ static void flags(void) {
     struct bumbazeel_state one, many;
     struct bumbazeel_next next_one, next_many;
     uint32_t built_one[5], built_many[5];
-    struct bumbazeel_fields fields;
-    uint8_t header[BLOCK];
     expect(bumbazeel_setup(0x07, 1, 1, CAPS, 1, 1, 512, &one, &next_one) == BUMBAZEEL_SEND && one.create == 1);
     expect(bumbazeel_setup(0x07, 128, 1, CAPS, 1, 1, 512, &many, &next_many) == BUMBAZEEL_SEND);
     expect(!memcmp(&one, &many, sizeof one) && !memcmp(&next_one, &next_many, sizeof next_one));
     expect(bumbazeel_words(0x07, 1, 4, 1, 0, 1, built_one) == BUMBAZEEL_SUCCESS && bumbazeel_words(0x07, 2, 4, 128, 0, 1, built_many) == BUMBAZEEL_SUCCESS);
     expect(!memcmp(built_one, built_many, sizeof built_one));
-    memset(header, 0, sizeof header);
-    header[0] = 0x07;
-    header[12] = header[16] = 1; /* a last block of areas 3 and 4 */
-    expect(bumbazeel_check(0x07, 128, header, sizeof header, &fields) == BUMBAZEEL_SUCCESS && fields.last[2] == 1 && fields.last[3] == 1);
-    expect(bumbazeel_check(0x07, 0, header, sizeof header, &fields) == BUMBAZEEL_BAD_HEADER && fields.bad_field == BUMBAZEEL_FIELD_AREA_4);
 }
 
 /* The limits and the phases that the header file names are the library's. */
 static void limits(void) {
     struct bumbazeel_state state;
     struct bumbazeel_next next;
+    struct bumbazeel_planned planned;
     uint32_t built[5];
+    uint8_t header[BLOCK];
     const uint8_t page = BUMBAZEEL_HOST_PAGE;
     const uint32_t blocks = BUMBAZEEL_MOST_BLOCKS, attempts = BUMBAZEEL_MOST_ATTEMPTS, last = BUMBAZEEL_LAST_OF_AREA_4;
     const size_t room = BUMBAZEEL_MOST_ROOM;
@@ -666,6 +846,11 @@ static void limits(void) {
     expect(bumbazeel_setup(page, 0, 4, CAPS, blocks, attempts, room + BLOCK, &state, &next) == BUMBAZEEL_REFUSED);
     expect(bumbazeel_setup(page, 0, 4, CAPS, blocks, attempts, room - BLOCK / 2, &state, &next) == BUMBAZEEL_REFUSED);
     expect(next.answer == BUMBAZEEL_BAD_SETUP && state.phase == BUMBAZEEL_AWAITS_NOTHING);
+    show_blocks(header, page, last);
+    expect(bumbazeel_plan(page, 4, CAPS, blocks, room, header, BLOCK, &planned) == BUMBAZEEL_SUCCESS && planned.chunks == last / blocks);
+    expect(bumbazeel_plan(page, 4, CAPS, blocks + 1, room, header, BLOCK, &planned) == BUMBAZEEL_BAD_SETUP);
+    expect(bumbazeel_plan(page, 4, CAPS, blocks, room + BLOCK, header, BLOCK, &planned) == BUMBAZEEL_BAD_SETUP);
+    expect(bumbazeel_plan(page, 4, CAPS, blocks, room - BLOCK / 2, header, BLOCK, &planned) == BUMBAZEEL_BAD_SETUP);
     expect(bumbazeel_words(BUMBAZEEL_CONTROLLER_PAGE, 0, 0, 1, last, blocks, built) == BUMBAZEEL_SUCCESS);
     expect(bumbazeel_words(page, 0, 0, 1, last + 1, blocks, built) == BUMBAZEEL_BAD_SETUP);
     expect(bumbazeel_words(page, 0, 0, 1, last, blocks + 1, built) == BUMBAZEEL_BAD_SETUP);
@@ -765,10 +950,13 @@ int main(void) {
     controller();
     drops();
     field_bytes();
-    faults(0x07, 0);
-    faults(0x07, 1);
-    faults(0x08, 0);
-    faults(0x08, 1);
+    for (uint8_t page = 0x07; page <= 0x08; page++) {
+        faults(page, CAPS);
+        faults(page, CAPS & ~BUMBAZEEL_ETDAS);
+        faults(page, CAPS & ~BUMBAZEEL_DA4S);
+        plan_lists(page);
+    }
+    plan_order();
     endings();
     collection(0x07, 1, 4);
     collection(0x08, 0, 5);

@@ -7,10 +7,10 @@ import sys
 from ctypes import POINTER, Structure, byref, c_size_t, c_uint8, c_uint16, c_uint32, c_uint64
 
 
-class Fields(Structure):
+class Planned(Structure):
     _fields_ = [("page", c_uint8), ("scope", c_uint8), ("host_generation", c_uint8), ("available", c_uint8),
                 ("controller_generation", c_uint8), ("bad_field", c_uint8), ("bad_byte", c_uint16), ("oui", c_uint32),
-                ("last", c_uint32 * 4), ("reason", c_uint8 * 128)]
+                ("last", c_uint32 * 4), ("reason", c_uint8 * 128), ("chunks", c_uint32)]
 
 
 class State(Structure):
@@ -42,7 +42,7 @@ def function(name, result, *arguments):
     return found
 
 
-check = function("check", c_uint8, c_uint8, c_uint8, BYTES, c_size_t, POINTER(Fields))
+plan = function("plan", c_uint8, c_uint8, c_uint8, c_uint8, c_uint32, c_size_t, BYTES, c_size_t, POINTER(Planned))
 field_byte = function("field_byte", c_uint16, c_uint8, c_uint8)
 words = function("words", c_uint8, c_uint8, c_uint8, c_uint8, c_uint8, c_uint32, c_uint32, WORDS)
 setup = function("setup", c_uint8, c_uint8, c_uint8, c_uint8, c_uint8, c_uint32, c_uint32, c_size_t, POINTER(State), POINTER(Next))
@@ -63,8 +63,9 @@ def same(what, wanted, got):
         print(f"boundary.py: {what}: wanted {wanted}, got {got}")
 
 
-same("sizes", (156, 56, 32, 300), tuple(map(ctypes.sizeof, (Fields, State, Next, Record))))
-same("places of the fields at fault", (5, 6, 3), (Fields.bad_field.offset, Fields.bad_byte.offset, Next.bad_field.offset))
+same("sizes", (160, 56, 32, 300), tuple(map(ctypes.sizeof, (Planned, State, Next, Record))))
+same("places in what a plan gives", [0, 1, 2, 3, 4, 5, 6, 8, 12, 28, 156], [getattr(Planned, name).offset for name, _ in Planned._fields_])
+same("the place of an ending's field at fault", 3, Next.bad_field.offset)
 classes = [class_of(page) for page in range(256)]
 same("classes", [42, 64, 64, 86], [classes.count(c) for c in range(4)])
 same("statuses", [0, 2, 0x109] + [0xFFFF] * 253, [status_of(answer) for answer in range(256)])
@@ -83,7 +84,7 @@ same("a capture", (0, 1, [1, 2, 3, 4], contents),
      (capture(byref(record), host, len(host), controller, len(controller), *candidate), record.available, list(record.controller_last),
       bytes(controller)))
 
-header, fields = (c_uint8 * BLOCK)(), Fields()
+header, planned = (c_uint8 * BLOCK)(), Planned()
 state, then, copy, data, identifier_class = State(), Next(), (c_uint8 * (6 * BLOCK))(*[5] * (6 * BLOCK)), (c_uint8 * (3 * BLOCK))(), c_uint8(9)
 same("a setup", 0, setup(8, 0, 4, EVERY_CAP, 3, 1, len(copy), byref(state), byref(then)))
 listed = []
@@ -94,10 +95,12 @@ while then.kind == 0 and len(listed) < 10:
                      byref(identifier_class))
     same("a command", (0, 0), (answer, identifier_class.value))
     if listed[-1][2] == 0 and len(listed) == 1:
-        same("a header", (0, 8, 2, 1, 0x123456, reason),
-             (check(8, 1, data, BLOCK, byref(fields)), fields.page, fields.scope, fields.available, fields.oui, bytes(fields.reason)))
+        same("a plan", (0, 8, 2, 1, 0x123456, [1, 2, 3, 4], reason, 2),
+             (plan(8, 4, EVERY_CAP, 3, len(copy), data, BLOCK, byref(planned)), planned.page, planned.scope, planned.available, planned.oui,
+              list(planned.last), bytes(planned.reason), planned.chunks))
     step(byref(state), answer == 0, data, size, copy, len(copy), byref(then))
 same("the commands", [[0x007F8008, 0, 0], [0x017F8008, 0, 512], [0x007F8008, 0, 2048], [0x007F8008, 0, 0], [0x007F0008, 0, 0]], listed)
+same("the chunks that were planned", planned.chunks, sum(offset > 0 for _, _, offset in listed))
 same("the ending", (1, 0, 0, 0, 5), (then.kind, then.answer, then.newer, then.bad_field, then.count))
 same("the copy", contents + bytes(2 * BLOCK), bytes(copy))
 same("a step after the ending, with no data", (2, 14), (step(byref(state), 1, None, 0, copy, len(copy), byref(then)), then.answer))
@@ -198,18 +201,29 @@ def with_faults(page, da4s, faults):
     return shown(page, identifier, last, scope, 1 if EMPTY in faults else 2 if AVAILABLE in faults else 0)
 
 
-def checked(page, da4s, content):
-    """A check's answer, field at fault and byte, and whether all else is zeros."""
-    ctypes.memset(byref(fields), 0xEE, ctypes.sizeof(fields))
-    answer = check(page, da4s, (c_uint8 * len(content))(*content) if content else None, len(content), byref(fields))
-    return answer, fields.bad_field, fields.bad_byte, bytes(fields)[:5] + bytes(fields)[8:] == bytes(153)
+def planned_from(content, page, area, caps, chunk, room):
+    """A plan's answer and number of chunks, and besides, with 7, its field at fault and byte; all else is zeros but with 0."""
+    ctypes.memset(byref(planned), 0xEE, ctypes.sizeof(planned))
+    lent = (c_uint8 * len(content))(*content)
+    answer = plan(page, area, caps, chunk, room, lent if content else None, len(content), byref(planned))
+    told = bytes(planned)
+    same("the header after a plan", content, bytes(lent))
+    same(f"what is told with {answer}", (answer != 0, answer != 7), (told[:5] + told[8:] == bytes(157), told[5:8] == bytes(3)))
+    return answer, planned.chunks
+
+
+def found(page, caps, content):
+    """The answer, field at fault and byte of the largest plan: of the greatest area, a block a command, into the largest copy."""
+    answer, _ = planned_from(content, page, 4 if caps & 12 == 12 else 3, caps, 1, 536870912)
+    return answer, planned.bad_field, planned.bad_byte
 
 
 def judged(page, da4s, content, chunk=None):
     """What a collection makes of a header: of its first one or, in its last attempt, of one after a chunk that came (1) or was refused (0).
-    Of DA4S and ETDAS the drive has one."""
+    Of DA4S and ETDAS the drive has one. A first header is answered as a plan from it is."""
     copy, opening = (c_uint8 * BLOCK)(*[5] * BLOCK), shown(page, page, (1, 1, 1, da4s), 2, 1)
-    setup(page, 0, 1, EVERY_CAP & ~(8 if da4s else 4), 1, 2, BLOCK, byref(state), byref(then))
+    caps = EVERY_CAP & ~(8 if da4s else 4)
+    setup(page, 0, 1, caps, 1, 2, BLOCK, byref(state), byref(then))
     for data in [] if chunk is None else [opening, reason * 4 if chunk else b""]:
         step(byref(state), len(data) > 0, (c_uint8 * len(data))(*data), len(data), copy, BLOCK, byref(then))
         same("a step before a later header", (0, 0), (then.kind, then.bad_field))
@@ -217,6 +231,9 @@ def judged(page, da4s, content, chunk=None):
     step(byref(state), 1, (c_uint8 * len(content))(*content), len(content), copy, BLOCK, byref(then))
     if then.answer == 7:
         same("the copy after a bad header", bytes(BLOCK), bytes(copy))
+    if chunk is None and len(content) == BLOCK:
+        answer, chunks = planned_from(content, page, 1, caps, 1, BLOCK)
+        same("a first header and a plan", (then.answer, then.bad_field, chunks), (answer, planned.bad_field, state.phase == 1))
     return then.kind, then.answer, then.bad_field
 
 
@@ -225,23 +242,25 @@ def can_be(page, faults):
     return EMPTY not in faults or (page == 8 and AVAILABLE not in faults)
 
 
-for page, da4s in itertools.product((7, 8), (0, 1)):
+for page, caps in itertools.product((7, 8), (EVERY_CAP, EVERY_CAP & ~8, EVERY_CAP & ~4)):
+    da4s = caps >> 2 & 1
     every_set = itertools.chain.from_iterable(itertools.combinations(FIELDS, count) for count in range(9))
     for faults in (faults for faults in every_set if can_be(page, faults)):
         content, first = with_faults(page, da4s, faults), min(faults, default=0)
-        due = (7 if first else 0, first, BYTES_OF[page][first], first > 0)
+        due = (7 if first else 11 if page == 8 else 0, first, BYTES_OF[page][first])  # a good one shows no data available
         for length in (511, 513) if LENGTH in faults else (512,):
-            same(f"{page:02X}h, DA4S {da4s}, faults {faults}, {length} bytes", due, checked(page, da4s, (content + b"7")[:length]))
+            same(f"{page:02X}h, caps {caps}, faults {faults}, {length} bytes", due, found(page, caps, (content + b"7")[:length]))
         if LENGTH not in faults and first:
             same(f"{page:02X}h, DA4S {da4s}, faults {faults} in a collection", [(1, 7, first)] * 3,
                  [judged(page, da4s, content, chunk) for chunk in (None, 1, 0)])
-    same("no bytes", (7, LENGTH, 0, True), checked(page, da4s, b""))
+    same("no bytes", (7, LENGTH, 0), found(page, caps, b""))
     neither = shown(9, 9, (0, 0, 0, 0), 2, 0)
-    same("a header as another page", [(7, IDENTIFIER, 0, True), (7, LENGTH, 0, True)], [checked(9, da4s, neither), checked(9, da4s, neither + b"7")])
+    same("a header as another page", [(13, 0, 0)] * 3, [found(9, caps, content) for content in (neither, neither + b"7", b"")])
     for last, with_da4s, without in LIMITS:
-        found = checked(page, da4s, shown(page, page, last, 2, 1))[1]
-        same(f"{page:02X}h, DA4S {da4s}, last blocks {last}", with_da4s if da4s else without, found)
-    same(f"{page:02X}h, available but empty", 0 if page == 7 else EMPTY, checked(page, da4s, shown(page, page, (0, 0, 0, 0), 2, 1))[1])
+        field = with_da4s if da4s else without
+        same(f"{page:02X}h, caps {caps}, last blocks {last}", (7 if field else 0, field, BYTES_OF[page][field]),
+             found(page, caps, shown(page, page, last, 2, 1)))
+    same(f"{page:02X}h, available but empty", 0 if page == 7 else EMPTY, found(page, caps, shown(page, page, (0, 0, 0, 0), 2, 1))[1])
     good, full = shown(page, page, (1, 1, 1, da4s), 2, 1), shown(page, page, (2, 2, 2, 2 * da4s), 2, 1)
     empty = shown(page, page, (0, 0, 0, 0), 2, 0)
     on_07h = page == 7
@@ -254,6 +273,23 @@ for page, da4s in itertools.product((7, 8), (0, 1)):
         step(byref(state), 1, header, BLOCK, data, BLOCK, byref(then))
         same("an acknowledgement of zeros, which is not judged", (1, 0, 0), (then.kind, then.answer, then.bad_field))
     same("headers that do not fit", [(2, 15, 0)] * 2, [judged(page, da4s, content) for content in (good[:511], good + b"7")])
+# all is wrong at first, and is mended one after the other: setup's limits, 6, 7, 11, 8
+no_area_4 = {"page": 8, "area": 4, "caps": EVERY_CAP & ~8, "chunk": 2, "room": BLOCK}
+wrong, nothing, large = (shown(8, 8, (2, 3, 3, 3), scope, available) for scope, available in ((3, 0), (2, 0), (2, 1)))
+for name, values in {"page": (0, 6, 9, 24, 255), "area": (0, 5, 255), "caps": (1, 2, 20, 29, 30, 32, 63, 255), "chunk": (0, 8193, 65537, 2 ** 32 - 1),
+                     "room": (1, 511, 513, 536870913, 536871424, 2 ** 32, 2 ** 64 - 512, 2 ** 64 - 1)}.items():
+    for value in values:
+        same(f"everything wrong, {name} {value}", (13, 0), planned_from(wrong, **{**no_area_4, name: value}))
+same("area 4 without ETDAS, without DA4S", [(6, 0)] * 2, [planned_from(wrong, **{**no_area_4, "caps": EVERY_CAP & ~cap}) for cap in (8, 4)])
+same("area 4 without ETDAS, from no bytes", (6, 0), planned_from(b"", **no_area_4))
+with_area_4 = {**no_area_4, "caps": EVERY_CAP}
+same("7, 11, 8", [(7, 0), (11, 0), (8, 0)], [planned_from(content, **with_area_4) for content in (wrong, nothing, large)])
+same("8 up to the room, then chunks", [(8, 0), (8, 0), (0, 2), (0, 2), (0, 2)],
+     [planned_from(large, **{**with_area_4, "room": room}) for room in (0, 2 * BLOCK, 3 * BLOCK, 4 * BLOCK, 536870912)])
+same("the chunks of each area", [(0, 1), (0, 2), (0, 2), (0, 2)], [planned_from(large, 8, area, EVERY_CAP, 2, 3 * BLOCK) for area in (1, 2, 3, 4)])
+same("the chunks of 1,048,576 blocks", [(0, 1048576), (0, 524288), (0, 349526), (0, 129), (0, 128)],
+     [planned_from(shown(8, 8, (0, 0, 1, 1048576), 2, 1), 8, 4, EVERY_CAP, chunk, 536870912) for chunk in (1, 2, 3, 8191, 8192)])
+same("no blocks", (0, 0), planned_from(shown(7, 7, (0, 0, 0, 0), 2, 0), 7, 4, EVERY_CAP, 1, 0))
 same("bytes of fields", [BYTES_OF[7 if page == 7 else 8] + [0] * 247 for page in range(256)],
      [[field_byte(page, field) for field in range(256)] for page in range(256)])
 if not failures:
