@@ -31,8 +31,8 @@ static void broken(const char *test, int line) {
 
 /* ---- what was reached */
 
-/* The last three are the fields that a check, a first header and a later header had at fault. */
-enum function { CHECK, BUILD, SETUP, STEP, FRESH, COMMAND, CAPTURE, DROP, NUMBERS, CHECK_FIELD, FIRST_FIELD, LATER_FIELD, FUNCTIONS };
+/* The last three are the fields that a plan, a first header and a later header had at fault. */
+enum function { PLAN, BUILD, SETUP, STEP, FRESH, COMMAND, CAPTURE, DROP, NUMBERS, PLAN_FIELD, FIRST_FIELD, LATER_FIELD, FUNCTIONS };
 enum { VARIANTS = 8, ANSWERS = 32, SENDS = 16 }; /* a step that goes on counts as answer 16 */
 __attribute__((section("__libfuzzer_extra_counters"))) static uint8_t reached[FUNCTIONS][VARIANTS][ANSWERS];
 
@@ -78,7 +78,7 @@ static size_t about(size_t bytes) {
 
 /* ---- slots */
 
-enum which { RECORD, HOST, CONTROLLER, LAST, CANDIDATE, REASON, WORDS, BUFFER, CLASS, STATE, NEXT, DATA, COPY, FIELDS, SLOTS };
+enum which { RECORD, HOST, CONTROLLER, LAST, CANDIDATE, REASON, WORDS, BUFFER, CLASS, STATE, NEXT, DATA, COPY, PLANNED, SLOTS };
 
 static struct slot {
     uint8_t *pages, *lent;
@@ -139,7 +139,7 @@ static bool zeros(const void *bytes, size_t count) {
 #define THE_RECORD AS(struct bumbazeel_record, RECORD)
 #define THE_STATE AS(struct bumbazeel_state, STATE)
 #define THE_NEXT AS(struct bumbazeel_next, NEXT)
-#define THE_FIELDS AS(struct bumbazeel_fields, FIELDS)
+#define THE_PLANNED AS(struct bumbazeel_planned, PLANNED)
 
 static uint32_t little_endian(const uint8_t *at, int bytes) { return bytes ? at[0] | little_endian(at + 1, bytes - 1) << 8 : 0; }
 
@@ -148,18 +148,57 @@ static bool last_blocks_keep_the_rule(const uint32_t last[4], bool da4s) {
            (!last[3] || last[2]);
 }
 
-/* ---- header check */
+/* ---- plan */
 
-static void fields_are_the_headers(const uint8_t *h, uint8_t page, bool da4s) {
-    const struct bumbazeel_fields *f = THE_FIELDS;
-    must(slots[DATA].bytes == BLOCK && h[0] == page && f->page == page && (page == HEADER_07 || page == HEADER_08));
-    must(f->scope == h[page == HEADER_07 ? 380 : 381] && f->host_generation == (page == HEADER_07 ? h[381] : 0));
-    must(f->available == h[382] && f->controller_generation == h[383] && f->oui == little_endian(h + 5, 3) && !f->bad_field && !f->bad_byte);
+/* What a plan is asked for besides the header. */
+struct wanted {
+    uint8_t page, area, caps;
+    uint32_t chunk;
+    size_t room;
+};
+
+/* The plan that refuses the fewest headers of a page: of the greatest area that the capabilities allow, a block a command, into the largest copy. */
+static struct wanted largest(uint8_t page, uint8_t caps) {
+    bool area_4 = caps & BUMBAZEEL_DA4S && caps & BUMBAZEEL_ETDAS;
+    return (struct wanted){page, area_4 ? 4 : 3, caps, 1, BUMBAZEEL_MOST_ROOM};
+}
+
+/* Plans from what the slot for data holds. */
+static uint8_t plan_into(struct bumbazeel_planned *planned, struct wanted w) {
+    return bumbazeel_plan(w.page, w.area, w.caps, w.chunk, w.room, slots[DATA].lent, slots[DATA].bytes, planned);
+}
+
+/* What setup's limits refuse: 13, then 6. Create and attempts have none here. */
+static uint8_t refused_by_limits(struct wanted w) {
+    if ((w.page != HEADER_07 && w.page != HEADER_08) || w.area < 1 || w.area > 4 || w.caps > 31 || !(w.caps & BUMBAZEEL_EXTENDED) ||
+        !(w.caps & BUMBAZEEL_TELEMETRY) || w.chunk < 1 || w.chunk > BUMBAZEEL_MOST_BLOCKS || w.room % BLOCK || w.room > BUMBAZEEL_MOST_ROOM)
+        return BUMBAZEEL_BAD_SETUP;
+    return w.area > largest(w.page, w.caps).area ? BUMBAZEEL_NO_AREA_4 : BUMBAZEEL_SUCCESS;
+}
+
+/* What a header of 512 bytes says. */
+static struct bumbazeel_planned fields_of(const uint8_t *h, uint8_t page) {
+    bool host = page == HEADER_07;
+    struct bumbazeel_planned f = {.page = h[0], .scope = h[host ? 380 : 381], .host_generation = host ? h[381] : 0, .available = h[382],
+                                  .controller_generation = h[383], .oui = little_endian(h + 5, 3)};
     for (int area = 0; area < 3; area++)
-        must(f->last[area] == little_endian(h + 8 + 2 * area, 2));
-    must(f->last[3] == little_endian(h + 16, 4) && !memcmp(f->reason, h + 384, REASON_BYTES));
-    must(last_blocks_keep_the_rule(f->last, da4s) && f->scope <= 2 && f->available <= 1);
-    must(page == HEADER_07 || !f->available || f->last[2]);
+        f.last[area] = little_endian(h + 8 + 2 * area, 2);
+    f.last[3] = little_endian(h + 16, 4);
+    memcpy(f.reason, h + 384, REASON_BYTES);
+    return f;
+}
+
+/* A plan that was not refused: its fields are the header's, which is a good one, and its chunks hold the wanted area, the last of them a part of
+ * it too. */
+static void plan_is_the_headers(struct wanted w) {
+    const struct bumbazeel_planned *p = THE_PLANNED;
+    struct bumbazeel_planned want = fields_of(slots[DATA].lent, w.page);
+    uint64_t wanted = want.last[w.area - 1], chunks = p->chunks;
+    want.chunks = p->chunks;
+    must(slots[DATA].bytes == BLOCK && p->page == w.page && !memcmp(p, &want, sizeof want));
+    must(last_blocks_keep_the_rule(p->last, w.caps & BUMBAZEEL_DA4S) && p->scope <= 2 && p->available <= 1);
+    must(w.page == HEADER_07 || (p->available && p->last[2]));
+    must(chunks * w.chunk >= wanted && (wanted ? (chunks - 1) * w.chunk < wanted : !chunks));
 }
 
 /* Whether a field after the length is at fault, in a header of 512 bytes. */
@@ -167,7 +206,7 @@ static bool is_at_fault(uint8_t field, const uint8_t *h, uint8_t page, bool da4s
     uint32_t a1 = little_endian(h + 8, 2), a2 = little_endian(h + 10, 2), a3 = little_endian(h + 12, 2), a4 = little_endian(h + 16, 4);
     switch (field) {
     case BUMBAZEEL_FIELD_IDENTIFIER:
-        return h[0] != page || (page != HEADER_07 && page != HEADER_08);
+        return h[0] != page;
     case BUMBAZEEL_FIELD_AREA_2:
         return a2 < a1;
     case BUMBAZEEL_FIELD_AREA_3:
@@ -196,21 +235,72 @@ static uint8_t first_at_fault(uint8_t page, bool da4s) {
 /* Which page it is, for what was reached. */
 static unsigned page_variant(uint8_t page) { return page == HEADER_07 ? 1 : page == HEADER_08 ? 2 : 0; }
 
-/* Checks what the slot for data holds. */
-static uint8_t check(uint8_t page, uint8_t da4s) {
-    lend(FIELDS, sizeof(struct bumbazeel_fields), 0xEE);
-    uint8_t answer = bumbazeel_check(page, da4s, slots[DATA].lent, slots[DATA].bytes, THE_FIELDS);
-    struct bumbazeel_fields bad = {.bad_field = first_at_fault(page, da4s)};
-    bad.bad_byte = bumbazeel_field_byte(page, bad.bad_field);
-    must(answer == (bad.bad_field ? BUMBAZEEL_BAD_HEADER : BUMBAZEEL_SUCCESS));
+/* What is due of a plan: the first refusal that holds. *told is what goes with it. */
+static uint8_t refusal_due(struct wanted w, struct bumbazeel_planned *told) {
+    *told = (struct bumbazeel_planned){0};
+    uint8_t by_limits = refused_by_limits(w);
+    if (by_limits)
+        return by_limits;
+    told->bad_field = first_at_fault(w.page, w.caps & BUMBAZEEL_DA4S);
+    told->bad_byte = bumbazeel_field_byte(w.page, told->bad_field);
+    if (told->bad_field)
+        return BUMBAZEEL_BAD_HEADER;
+    const struct bumbazeel_planned shown = fields_of(slots[DATA].lent, w.page);
+    if (w.page == HEADER_08 && !shown.available)
+        return BUMBAZEEL_NOTHING;
+    return (uint64_t)shown.last[w.area - 1] * BLOCK > w.room ? BUMBAZEEL_NO_ROOM : BUMBAZEEL_SUCCESS;
+}
+
+/* Lets a collection with so many attempts take what the slot for data holds as its first header, and run on with nothing that disturbs it. Setup
+ * refuses what the plan's limits do, the header is answered as the plan is, and then the planned chunks are sent. A copy that no slot would hold is
+ * set up alone. */
+static void collection_is_as_planned(struct wanted w, uint8_t create, uint32_t attempts, uint8_t answer) {
+    static uint8_t copy[MOST];
+    static const uint8_t blocks[MOST];
+    const uint8_t *h = slots[DATA].lent;
+    const bool by_limits = answer == BUMBAZEEL_BAD_SETUP || answer == BUMBAZEEL_NO_AREA_4;
+    const uint32_t chunks = THE_PLANNED->chunks;
+    struct bumbazeel_state s;
+    struct bumbazeel_next next;
+    uint32_t sent = 0;
+    must(bumbazeel_setup(w.page, create, w.area, w.caps, w.chunk, attempts, w.room, &s, &next) == (by_limits ? BUMBAZEEL_REFUSED : BUMBAZEEL_SEND));
+    must(next.answer == (by_limits ? answer : 0));
+    if (by_limits || w.room > MOST)
+        return;
+    bumbazeel_step(&s, 1, h, slots[DATA].bytes, copy, w.room, &next);
+    if (slots[DATA].bytes != BLOCK) {
+        must(answer == BUMBAZEEL_BAD_HEADER && next.kind == BUMBAZEEL_REFUSED && next.answer == BUMBAZEEL_DOES_NOT_FIT);
+        return;
+    }
+    must(next.kind == (answer ? BUMBAZEEL_ENDED : BUMBAZEEL_SEND) && next.answer == answer && next.bad_field == THE_PLANNED->bad_field);
+    while (next.kind == BUMBAZEEL_SEND) {
+        bool chunk = s.phase == BUMBAZEEL_AWAITS_CHUNK;
+        size_t bytes = 4 * ((size_t)(next.words[0] >> 16 | next.words[1] << 16) + 1);
+        sent += chunk;
+        must(sent <= chunks && bytes <= MOST);
+        bumbazeel_step(&s, 1, chunk ? blocks : h, bytes, copy, w.room, &next);
+    }
+    must(next.kind == BUMBAZEEL_ENDED && next.answer == answer && sent == chunks);
+    must(next.count == (answer ? 1 : 2 + (uint64_t)chunks + (w.page == HEADER_08)));
+}
+
+/* Plans from what the slot for data holds, and compares the plan with collections. */
+static uint8_t plan(struct wanted w) {
+    struct bumbazeel_planned told;
+    lend(PLANNED, sizeof told, 0xEE);
+    uint8_t answer = plan_into(THE_PLANNED, w);
+    must(answer == refusal_due(w, &told));
     if (answer)
-        must(!memcmp(THE_FIELDS, &bad, sizeof bad));
+        must(!memcmp(THE_PLANNED, &told, sizeof told));
     else
-        fields_are_the_headers(slots[DATA].lent, page, da4s);
-    accept_all(FIELDS);
+        plan_is_the_headers(w);
+    accept_all(PLANNED);
     slots_are_as_they_must();
-    reach(CHECK, page_variant(page), answer);
-    reach(CHECK_FIELD, page_variant(page), THE_FIELDS->bad_field);
+    reach(PLAN, page_variant(w.page), answer);
+    reach(PLAN_FIELD, page_variant(w.page), THE_PLANNED->bad_field);
+    collection_is_as_planned(w, 0, BUMBAZEEL_MOST_ATTEMPTS, answer);
+    collection_is_as_planned(w, w.page != HEADER_08, 1, answer);
+    slots_are_as_they_must();
     return answer;
 }
 
@@ -238,13 +328,26 @@ static void make_header(uint8_t page) {
     settle(DATA);
 }
 
-static void check_of_anything(void) {
+/* The largest plan, or one with other arguments as the input says. */
+static void plan_of_anything(void) {
     uint8_t page = byte() % 16, what = byte();
     if (what & 1)
         make_header(page);
     else
         lend(DATA, about(BLOCK), what & 2 ? (uint8_t)~page : page);
-    check(page, byte() & 1);
+    uint8_t shape = byte(), caps = (shape & 1 ? 31 : 31 & ~BUMBAZEEL_DA4S) & ~(shape & 2 ? BUMBAZEEL_ETDAS : 0);
+    if (shape & 4)
+        page = byte();
+    if (shape & 8)
+        caps = byte();
+    struct wanted w = largest(page, caps);
+    if (shape & 0x10)
+        w.area = byte() % 8;
+    if (shape & 0x20)
+        w.chunk = number();
+    if (shape & 0xC0)
+        w.room = number() * (size_t)(shape & 0x40 ? BLOCK : 1);
+    plan(w);
 }
 
 /* ---- command builder and numbers */
@@ -394,13 +497,14 @@ static void served_header_reads_back(const struct bumbazeel_record *shown, uint8
     bool host = page == HEADER_07;
     memcpy(lend(DATA, BLOCK, 0), slots[BUFFER].lent, BLOCK);
     settle(DATA);
-    must(check(page, shown->caps & BUMBAZEEL_DA4S) == BUMBAZEEL_SUCCESS);
-    const struct bumbazeel_fields *f = THE_FIELDS;
-    must(f->oui == shown->oui && f->scope == (host ? shown->host_scope : shown->controller_scope));
-    must(f->host_generation == (host ? shown->host_generation : 0) && f->controller_generation == shown->controller_generation);
-    must(f->available == shown->available);
-    must(!memcmp(f->last, host ? shown->host_last : shown->controller_last, sizeof f->last));
-    must(!memcmp(f->reason, host ? shown->host_reason : shown->controller_reason, REASON_BYTES));
+    uint8_t answer = plan(largest(page, shown->caps | BUMBAZEEL_EXTENDED | BUMBAZEEL_TELEMETRY));
+    must(answer == (host || shown->available ? BUMBAZEEL_SUCCESS : BUMBAZEEL_NOTHING));
+    const struct bumbazeel_planned f = fields_of(slots[DATA].lent, page);
+    must(f.page == page && f.oui == shown->oui && f.scope == (host ? shown->host_scope : shown->controller_scope));
+    must(f.host_generation == (host ? shown->host_generation : 0) && f.controller_generation == shown->controller_generation);
+    must(f.available == shown->available);
+    must(!memcmp(f.last, host ? shown->host_last : shown->controller_last, sizeof f.last));
+    must(!memcmp(f.reason, host ? shown->host_reason : shown->controller_reason, REASON_BYTES));
 }
 
 /* What a command that succeeded may have changed, in its order: create, transfer, clearing. */
@@ -512,8 +616,10 @@ static void drop(void) {
 
 /* ---- the collection */
 
-static bool untouched; /* the state comes from setup, and only steps have changed it */
-static uint64_t sent;  /* commands, since setup */
+static bool untouched;      /* the state comes from setup, and only steps have changed it */
+static uint64_t sent;       /* commands, since setup */
+static uint32_t chunks;     /* of these, the chunks of this attempt */
+static uint32_t chunks_due; /* by the plan from the header that opened it */
 
 static bool attempts_are_good(uint32_t attempts) { return attempts >= 1 && attempts <= BUMBAZEEL_MOST_ATTEMPTS; }
 
@@ -534,6 +640,25 @@ static void command_is_awaited(void) {
     must(!untouched || (s->count == sent && count_is_good(s)));
 }
 
+static struct wanted wanted_by(const struct bumbazeel_state *s) { return (struct wanted){s->page, s->area, s->caps, s->chunk, s->room}; }
+
+/* A header that opened an attempt, the first or a later one: as many chunks are due as a plan from it has. */
+static void attempt_was_opened(const struct bumbazeel_state *before) {
+    const struct bumbazeel_state *s = THE_STATE;
+    struct bumbazeel_planned p;
+    must(plan_into(&p, wanted_by(before)) == BUMBAZEEL_SUCCESS && !memcmp(s->last, p.last, sizeof p.last));
+    must(s->phase == (p.chunks ? BUMBAZEEL_AWAITS_CHUNK : BUMBAZEEL_AWAITS_CLOSING_HEADER));
+    chunks = 0;
+    chunks_due = p.chunks;
+}
+
+/* Counts an attempt's chunks: all that were planned before the closing header, unless one is refused. */
+static void count_chunks(void) {
+    chunks += THE_STATE->phase == BUMBAZEEL_AWAITS_CHUNK;
+    must(!untouched || chunks <= chunks_due);
+    must(!untouched || THE_STATE->phase != BUMBAZEEL_AWAITS_CLOSING_HEADER || chunks == chunks_due);
+}
+
 static void setup(void) {
     uint8_t flags = byte(), caps = flags & 0x40 ? byte() % 40 : 31, page = flags & 0x80 ? byte() : HEADER_07 + (flags & 1);
     uint8_t area = flags >> 1 & 7;
@@ -543,7 +668,11 @@ static void setup(void) {
     lend(NEXT, sizeof(struct bumbazeel_next), 0xEE);
     uint8_t kind = bumbazeel_setup(page, flags >> 4 & 1, area, caps, chunk, attempts, room, THE_STATE, THE_NEXT);
     must(kind == THE_NEXT->kind && !THE_NEXT->bad_field && zeros(THE_STATE->zero, 2));
-    must(attempts_are_good(attempts) || THE_NEXT->answer == BUMBAZEEL_BAD_SETUP);
+    /* A plan from no bytes is refused by setup's limits or, where they are kept, by the length. */
+    struct bumbazeel_planned planned;
+    const uint8_t by_plan = bumbazeel_plan(page, area, caps, chunk, room, NULL, 0, &planned);
+    const bool alone = !attempts_are_good(attempts) || (flags >> 4 & 1 && page == HEADER_08); /* what no plan is asked for */
+    must(THE_NEXT->answer == (alone ? BUMBAZEEL_BAD_SETUP : by_plan == BUMBAZEEL_BAD_HEADER ? BUMBAZEEL_SUCCESS : by_plan));
     accept_all(STATE);
     accept_all(NEXT);
     slots_are_as_they_must();
@@ -584,29 +713,41 @@ static void run_ended(const struct bumbazeel_state *before) {
         memset((uint8_t *)image(COPY) + kept, 0, slots[COPY].bytes - kept);
 }
 
+/* A first header is answered as a plan from it is. */
+static void first_header_was_judged(const struct bumbazeel_state *before) {
+    const struct bumbazeel_next *next = THE_NEXT;
+    struct bumbazeel_planned p;
+    must(next->answer == plan_into(&p, wanted_by(before)) && next->bad_field == p.bad_field);
+    must(next->kind == (next->answer ? BUMBAZEEL_ENDED : BUMBAZEEL_SEND));
+    if (!next->answer) {
+        must(THE_STATE->attempt == before->attempt && THE_STATE->generation == slots[DATA].lent[generation_place(before->page)]);
+        attempt_was_opened(before);
+    }
+}
+
 /* A header that does not match the attempt's opens the next one, if there is one and the copy has room for its area. */
-static void attempt_failed(const struct bumbazeel_state *before, const struct bumbazeel_fields *f, uint8_t generation) {
+static void attempt_failed(const struct bumbazeel_state *before, const struct bumbazeel_planned *f, uint8_t generation) {
     const struct bumbazeel_state *s = THE_STATE;
     const struct bumbazeel_next *next = THE_NEXT;
     bool used_up = before->attempt == before->attempts, large = (uint64_t)f->last[before->area - 1] * BLOCK > before->room;
-    if (used_up || large)
+    if (used_up || large) {
         must(next->kind == BUMBAZEEL_ENDED && next->answer == (used_up ? BUMBAZEEL_ATTEMPTS_USED_UP : BUMBAZEEL_NO_ROOM));
-    else
+    } else {
         must(next->kind == BUMBAZEEL_SEND && s->attempt == before->attempt + 1 && s->generation == generation &&
              !memcmp(s->last, f->last, sizeof s->last));
+        attempt_was_opened(before);
+    }
 }
 
 /* A later header matches by its generation and all four last blocks. */
 static void later_header_was_judged(const struct bumbazeel_state *before) {
     const uint8_t *h = slots[DATA].lent;
     const struct bumbazeel_next *next = THE_NEXT;
-    struct bumbazeel_fields f;
+    struct bumbazeel_planned f;
     bool host = before->page == HEADER_07;
-    uint8_t generation = h[generation_place(before->page)];
-    if (bumbazeel_check(before->page, before->caps & BUMBAZEEL_DA4S, h, BLOCK, &f))
-        must(next->answer == BUMBAZEEL_BAD_HEADER);
-    else if (!host && !f.available)
-        must(next->answer == BUMBAZEEL_WITHDRAWN);
+    uint8_t generation = h[generation_place(before->page)], planned = plan_into(&f, largest(before->page, before->caps));
+    if (planned)
+        must(next->answer == (planned == BUMBAZEEL_NOTHING ? BUMBAZEEL_WITHDRAWN : BUMBAZEEL_BAD_HEADER));
     else if (generation != before->generation || memcmp(f.last, before->last, sizeof f.last))
         attempt_failed(before, &f, generation);
     else if (before->phase == BUMBAZEEL_AWAITS_CLOSING_HEADER_AFTER_REFUSAL)
@@ -615,16 +756,16 @@ static void later_header_was_judged(const struct bumbazeel_state *before) {
         must(host ? next->kind == BUMBAZEEL_ENDED && !next->answer : THE_STATE->phase == BUMBAZEEL_AWAITS_ACKNOWLEDGEMENT);
 }
 
-/* Ending 7 has the field that a check finds at fault in the same header, which is not its length, and nothing else has a field. An
+/* Ending 7 has the field that a plan finds at fault in the same header, which is not its length, and nothing else has a field. An
  * acknowledgement is no header to be judged. */
-static void field_is_the_checks(const struct bumbazeel_state *before) {
+static void field_is_the_plans(const struct bumbazeel_state *before) {
     const struct bumbazeel_next *next = THE_NEXT;
     const uint8_t field = next->bad_field;
-    struct bumbazeel_fields f;
+    struct bumbazeel_planned f;
     must((field != BUMBAZEEL_FIELD_NONE) == (next->kind == BUMBAZEEL_ENDED && next->answer == BUMBAZEEL_BAD_HEADER));
     if (!field)
         return;
-    must(bumbazeel_check(before->page, before->caps & BUMBAZEEL_DA4S, slots[DATA].lent, slots[DATA].bytes, &f) == BUMBAZEEL_BAD_HEADER);
+    must(plan_into(&f, largest(before->page, before->caps)) == BUMBAZEEL_BAD_HEADER);
     must(field == f.bad_field && field != BUMBAZEEL_FIELD_LENGTH && before->phase != BUMBAZEEL_AWAITS_ACKNOWLEDGEMENT);
     reach(before->phase == BUMBAZEEL_AWAITS_FIRST_HEADER ? FIRST_FIELD : LATER_FIELD, 2u * before->phase + (before->page == HEADER_08), field);
 }
@@ -635,7 +776,7 @@ static void step(uint8_t ok) {
     lend(NEXT, sizeof(struct bumbazeel_next), 0xEE);
     uint8_t kind = bumbazeel_step(THE_STATE, ok, slots[DATA].lent, slots[DATA].bytes, slots[COPY].lent, slots[COPY].bytes, THE_NEXT);
     must(kind == THE_NEXT->kind && kind <= BUMBAZEEL_REFUSED);
-    field_is_the_checks(&before);
+    field_is_the_plans(&before);
     accept_all(NEXT);
     reach(STEP, before.phase, kind == BUMBAZEEL_SEND ? SENDS : THE_NEXT->answer);
     if (kind == BUMBAZEEL_REFUSED) {
@@ -645,6 +786,8 @@ static void step(uint8_t ok) {
         must(attempts_are_good(before.attempts) && count_is_good(&before));
         if (before.phase == BUMBAZEEL_AWAITS_CHUNK && ok)
             memcpy((uint8_t *)image(COPY) + (size_t)(before.at - 1) * BLOCK, slots[DATA].lent, slots[DATA].bytes);
+        if (ok && before.phase == BUMBAZEEL_AWAITS_FIRST_HEADER)
+            first_header_was_judged(&before);
         if (ok && (before.phase == BUMBAZEEL_AWAITS_CLOSING_HEADER || before.phase == BUMBAZEEL_AWAITS_CLOSING_HEADER_AFTER_REFUSAL))
             later_header_was_judged(&before);
         accept_all(STATE);
@@ -652,6 +795,7 @@ static void step(uint8_t ok) {
     if (kind == BUMBAZEEL_SEND) {
         sent++;
         command_is_awaited();
+        count_chunks();
     } else if (kind == BUMBAZEEL_ENDED) {
         run_ended(&before);
     }
@@ -733,7 +877,7 @@ static void change_copy(void) { lend(COPY, about(byte() % (MOST_BLOCKS + 1) * (s
 /* ---- an input */
 
 static void (*const calls[])(void) = {
-    run,   command_of_anything, capture, step_with_anything, fresh,         fill_record,  setup,       check_of_anything,
+    run,   command_of_anything, capture, step_with_anything, fresh,         fill_record,  setup,       plan_of_anything,
     build, numbers,             damage_record,               change_stores, damage_state, change_copy,  drop,
 };
 
@@ -767,8 +911,8 @@ int LLVMFuzzerTestOneInput(const uint8_t *bytes, size_t count) {
 #ifdef REPLAY
 static void tell_reached(void) {
     static const char *const names[FUNCTIONS] = {
-        "check",   "words", "setup", "step",             "fresh",                   "command",
-        "capture", "drop",  "class", "field of a check", "field of a first header", "field of a later header",
+        "plan",    "words", "setup", "step",            "fresh",                   "command",
+        "capture", "drop",  "class", "field of a plan", "field of a first header", "field of a later header",
     };
     for (int f = 0; f < FUNCTIONS; f++) {
         printf("%s:", names[f]);
