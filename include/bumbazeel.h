@@ -35,6 +35,7 @@ enum {
     BUMBAZEEL_LAST_OF_AREA_3 = 65535,   /* the greatest last block of areas 1 to 3 */
     BUMBAZEEL_LAST_OF_AREA_4 = 1048576, /* and of area 4 */
     BUMBAZEEL_MOST_BLOCKS = 8192,       /* blocks of one command */
+    BUMBAZEEL_REACH = 31,               /* the last block that a command without extended data reaches: 4,096 dwords from offset 0 */
     BUMBAZEEL_MOST_ATTEMPTS = 65535,    /* of a collection */
     BUMBAZEEL_MOST_ROOM = 536870912 /* bytes of a copy */
 };
@@ -56,7 +57,8 @@ enum {
     BUMBAZEEL_BROKE_ITS_WORD = 12,   /* the controller refused what it may not refuse */
     BUMBAZEEL_BAD_SETUP = 13,        /* bad setup, state or builder arguments */
     BUMBAZEEL_ALREADY_ENDED = 14,
-    BUMBAZEEL_DOES_NOT_FIT = 15      /* the completion does not fit the awaited command */
+    BUMBAZEEL_DOES_NOT_FIT = 15,     /* the completion does not fit the awaited command */
+    BUMBAZEEL_OUT_OF_REACH = 19      /* wanted area past block 31, without extended data */
 };
 
 /* ---- what a controller can do: a byte of five bits; a byte over 31 is damaged */
@@ -98,7 +100,8 @@ struct bumbazeel_planned {
     uint32_t oui;                  /*   8 */
     uint32_t last[4];              /*  12: last blocks of areas 1 to 4 */
     uint8_t reason[128];           /*  28 */
-    uint32_t chunks;               /* 156: the commands that bring the wanted area: its blocks divided by `chunk`, rounded up */
+    uint32_t chunks;               /* 156: the commands that bring the wanted area: its blocks divided by `chunk`, rounded up; without
+                                           extended data one, or none of an area without blocks */
 };
 BUMBAZEEL_ASSERT(sizeof(struct bumbazeel_planned) == 160, "struct bumbazeel_planned has 160 bytes");
 
@@ -115,7 +118,8 @@ enum {
 /* A collection's state. 56 bytes. Lend it back as it was given. One that is damaged (`phase` over 5, `create` over 1, `caps` over 31, `zero`
  * not zero, or `at` not zero in a phase other than 1) gets 13. One that has ended (`phase` 5) gets 14, whatever its other numbers are. Any
  * other gets 13 where its numbers break setup's limits, `attempt` is not 1 to `attempts`, `count` is over 2 + `attempts` * 1,048,577 (which is up
- * to 68,718,493,697 and takes 64 bits), its area does not fit `room`, or its chunk starts outside the area. */
+ * to 68,718,493,697 and takes 64 bits), its area does not fit `room`, or its chunk starts outside the area; without extended data also where its
+ * area is past block 31, or its chunk starts at any block but 1. */
 struct bumbazeel_state {
     uint8_t phase;      /*  0: what is awaited, one of those above */
     uint8_t page;       /*  1 */
@@ -124,7 +128,7 @@ struct bumbazeel_state {
     uint8_t caps;       /*  4 */
     uint8_t generation; /*  5: of the attempt's header */
     uint8_t zero[2];    /*  6 */
-    uint32_t chunk;     /*  8: blocks a command */
+    uint32_t chunk;     /*  8: blocks a command; 0 without extended data */
     uint32_t attempts;  /* 12: attempts allowed */
     uint32_t attempt;   /* 16: this attempt, from 1 */
     uint32_t at;        /* 20: the block where the awaited chunk starts; 0 in any other phase */
@@ -169,8 +173,9 @@ BUMBAZEEL_ASSERT(sizeof(struct bumbazeel_record) == 300, "struct bumbazeel_recor
 
 /* Checks a header of `bytes` bytes and plans a collection from it: of the wanted area, `chunk` blocks a command, into a copy of `room` bytes. The
  * answer is the first of these: 13 or 6, as bumbazeel_setup would refuse page, area, capabilities, `chunk` and `room`; 7: the header is bad, by
- * DA4S of `caps`; 11: an 08h header shows no data available; 8: the wanted area is larger than the copy; else 0. A collection answers its first
- * header in the same way, and sends `chunks` chunks if nothing disturbs it. *planned is always written. */
+ * DA4S of `caps`; 11: an 08h header shows no data available; 19: without extended data, the wanted area is past block 31; 8: the wanted area is
+ * larger than the copy; else 0. A collection answers its first header in the same way, and sends `chunks` chunks if nothing disturbs it. *planned
+ * is always written. */
 uint8_t bumbazeel_plan(uint8_t page, uint8_t area, uint8_t caps, uint32_t chunk, size_t room, const uint8_t *header, size_t bytes,
                        struct bumbazeel_planned *planned);
 
@@ -185,7 +190,8 @@ uint8_t bumbazeel_words(uint8_t page, uint8_t create, uint8_t mcda, uint8_t rae,
 
 /* Begins a collection into a copy of `room` bytes. Answers next->kind: BUMBAZEEL_SEND with the first command, or BUMBAZEEL_REFUSED
  * with 13 or 6 and a state that has ended. *state and *next are written in both cases. `caps` over 31 is a bad setup, and none of its
- * bits is in the state. */
+ * bits is in the state. With extended data `chunk` blocks are read a command, 1 to BUMBAZEEL_MOST_BLOCKS. Without it no offset can be sent, so
+ * `chunk` is 0, and one command reads header and blocks together, up to BUMBAZEEL_REACH. */
 uint8_t bumbazeel_setup(uint8_t page, uint8_t create, uint8_t area, uint8_t caps, uint32_t chunk, uint32_t attempts, size_t room,
                         struct bumbazeel_state *state, struct bumbazeel_next *next);
 
@@ -193,7 +199,8 @@ uint8_t bumbazeel_setup(uint8_t page, uint8_t create, uint8_t area, uint8_t caps
  * if its generation and all four last blocks are those of the header that opened the attempt, and then the copy stands. A generation is one
  * byte, so a multiple of 256 captures of the same areas between the two headers is not seen, and the copy may mix captures then; with at most
  * 255 in an attempt it never does, however many the whole run meets. Answers next->kind.
- * BUMBAZEEL_SEND: the next command is awaited, and a chunk that came was written to its place in the copy. BUMBAZEEL_ENDED: with success
+ * BUMBAZEEL_SEND: the next command is awaited, and a chunk that came was written to its place in the copy, of header and blocks together the
+ * blocks alone; that header is not judged, the closing one decides. BUMBAZEEL_ENDED: with success
  * the copy holds the wanted area and zeros after it, else zeros alone. BUMBAZEEL_REFUSED: 14, 13 or 15; state and copy are as they
  * were. *next is always written. */
 uint8_t bumbazeel_step(struct bumbazeel_state *state, uint8_t ok, const uint8_t *data, size_t bytes, uint8_t *copy, size_t room,

@@ -1,4 +1,4 @@
--- Document 01, "Answer numbers": the sixteen answers, and the NVMe status of those that have one.
+-- Document 01, "Answer numbers", and document 02, Q-10: the seventeen answers, and the NVMe status of those that have one.
 -- Assumes nothing.
 use Prim.Native.Nat.{ℕ, _+_, _*_}
 use mathlib.Core.Bool.{true, false}
@@ -71,6 +71,10 @@ alreadyEnded = 14
 -- completion doesn't fit the awaited command
 abbrev pub doesNotFit : ℕ
 doesNotFit = 15
+
+-- wanted area past block 31, which no command without extended data reaches
+abbrev pub outOfReach : ℕ
+outOfReach = 19
 
 -- ---- their statuses
 

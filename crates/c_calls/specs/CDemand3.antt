@@ -3,7 +3,7 @@
 use Prim.Native.Nat.{ℕ, _+_, _-_, _*_, _≤_, _<_}
 use mathlib.Core.Path.{_≡_, refl, sym, ap, subst, _∙_}
 use mathlib.Core.List.{List, _++_}
-use mathlib.Core.Bool.{Bool}
+use mathlib.Core.Bool.{Bool, false}
 use native.Mathlib.Omega.{arith}
 use lib.ListN.{length, getD}
 use lib.Dec.{ltb, eqb}
@@ -11,10 +11,10 @@ use Rattle.choices.specs.Choice.{one}
 use Rattle.copies.specs.Parts.{zeros}
 use Rattle.littleendian.specs.Numbers.{valueAt}
 use Rattle.littleendian.specs.Back.{Bytes}
-use Rattle.answers.specs.Answers.{success, noRoom, withdrawn, nothing}
+use Rattle.answers.specs.Answers.{success, noRoom, withdrawn, nothing, outOfReach}
 use Rattle.pages.specs.Pages.{controllerPage, block, most4}
 use Rattle.plans.specs.declared.Plan.{Plan}
-use Rattle.plans.specs.Plans.{setupAnswer}
+use Rattle.plans.specs.Plans.{setupAnswer, reach}
 use Rattle.judgement.specs.Endings.{numberOf, newerOf}
 use Rattle.collection.specs.declared.Collection.{Collection}
 use Rattle.collection.specs.declared.Finish.{Finish}
@@ -27,7 +27,7 @@ use Rattle.sources.specs.Source.{ours, Turn, Stand, Counters}
 use Rattle.sources.specs.Promise.{noticed, mostCommands, Finished}
 use Rattle.sources.specs.Few.{Among, among, noticed-few}
 use Rattle.demand3.specs.Bench.{Loan, controllerSource}
-use Rattle.demand3.specs.Demand3.{final, TrueEnding, succeeded-by, room-short, gone, never-there, Demand3, demand3}
+use Rattle.demand3.specs.Demand3.{final, TrueEnding, succeeded-by, room-short, past-reach, gone, never-there, Demand3, demand3}
 use Rattle.shared_layouts.specs.Layouts.{capsOf}
 use Rattle.state_layout.specs.Layout.{stateAt}
 use Rattle.record_layout.specs.Layout.{recordAt}
@@ -76,9 +76,14 @@ module _ (page create area caps chunk attempts room : ℕ) (copy : List ℕ) (b 
         → last .copy ≡ areaIn page area (last .checked) ++ zeros (room - block * lastIn page area (last .checked))
         → newerIn (last .next) ≡ one newer
         → CTrueEnding newer
-    -- 8: the wanted area was larger than the copy, which is zeros
+    -- 8: the wanted area, which was in reach, was larger than the copy, which is zeros
     lacks-room : answerIn (last .next) ≡ noRoom → last .copy ≡ zeros room
+        → (capsOf caps .extended ≡ false → lastIn page area (last .checked) ≤ reach)
         → room < block * lastIn page area (last .checked)
+        → CTrueEnding newer
+    -- 19: `caps` has no extended data, and the wanted area was past block 31, the last in reach; the copy is zeros
+    reaches-not : answerIn (last .next) ≡ outOfReach → last .copy ≡ zeros room
+        → capsOf caps .extended ≡ false → reach < lastIn page area (last .checked)
         → CTrueEnding newer
     -- 10: the page is 08h, and `available` of the record was 0 at the last check, which was not the first header
     withdraws : answerIn (last .next) ≡ withdrawn → last .copy ≡ zeros room
@@ -97,12 +102,15 @@ module _ (page create area caps chunk attempts room : ℕ) (copy : List ℕ) (b 
     -- it is within 1 + (k + 1)(C + 1), one more on 08h, C being the greatest number of chunks planned from a judged header, and also with C at the house limit
     pub bounded : valueAt 8 32 (last .state) ≤ mostCommands p k (mostChunks p (last .headers))
     pub limited : valueAt 8 32 (last .state) ≤ mostCommands p k most4
+    -- without extended data C is 1 at most
+    pub once : capsOf caps .extended ≡ false → valueAt 8 32 (last .state) ≤ mostCommands p k 1
     -- and so many commands end the loop
     pub ends : mostCommands p k (mostChunks p (last .headers)) ≤ 1 + length ts → kindIn (last .next) ≡ ending
     pub ends-limited : mostCommands p k most4 ≤ 1 + length ts → kindIn (last .next) ≡ ending
+    pub ends-once : capsOf caps .extended ≡ false → mostCommands p k 1 ≤ 1 + length ts → kindIn (last .next) ≡ ending
     -- no step answers BUMBAZEEL_REFUSED
     pub never : kindIn (last .next) ≡ refusal → ⊥
-    -- every ending is one of the four, and true
+    -- every ending is one of the five, and true
     pub ended : kindIn (last .next) ≡ ending → CTrueEnding newer
 
   -- ---- the theorems
@@ -187,7 +195,10 @@ module _ (page create area caps chunk attempts room : ℕ) (copy : List ℕ) (b 
             succeeds (answer-is ∙ n)
             (r .copy ∙ c ∙ rw (long-is p set-up (last .checked), area-is p set-up (last .checked) (r .checked-fit)))
             (newer-is ∙ ap one (f ∙ ap (λ (x : Counters). noticed (x .captures)) (sym (r .counts))))
-        true-ending (room-short n c f) = lacks-room (answer-is ∙ n) (r .copy ∙ c) (omega (arith, last-is p set-up (last .checked), f))
+        true-ending (room-short n c g f) =
+            let l = last-is p set-up (last .checked) in
+            lacks-room (answer-is ∙ n) (r .copy ∙ c) (λ o. omega (arith, l, g o)) (omega (arith, l, f))
+        true-ending (past-reach n c o f) = reaches-not (answer-is ∙ n) (r .copy ∙ c) o (omega (arith, last-is p set-up (last .checked), f))
         true-ending (gone n c h z m) = withdraws (answer-is ∙ n) (r .copy ∙ c) h z (omega (arith, all-made, m))
         true-ending (never-there n c h z m) = finds-nothing (answer-is ∙ n) (r .copy ∙ c) h z (omega (arith, all-made, m))
 
@@ -215,8 +226,10 @@ module _ (page create area caps chunk attempts room : ℕ) (copy : List ℕ) (b 
         says = λ q. ending-says (s .said) refl (sym kind-is ∙ q) .0;
         bounded = rw (count-is, chunks-are) (d .bounded);
         limited = omega (arith, count-is, d .limited);
+        once = λ o. omega (arith, count-is, d .once o);
         ends = λ h. has-ended (d .ends (rw chunks-are at h));
         ends-limited = λ h. has-ended (d .ends-limited h);
+        ends-once = λ o h. has-ended (d .ends-once o h);
         never = λ q. refused-never (s .said) refl (sym kind-is ∙ q);
         ended = λ q. ending-says (s .said) refl (sym kind-is ∙ q) .1;
       }

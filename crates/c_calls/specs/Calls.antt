@@ -12,12 +12,13 @@ use Rattle.littleendian.specs.Numbers.{valueAt}
 use Rattle.answers.specs.Answers.{success}
 use Rattle.pages.specs.Pages.{hostPage, controllerPage, block, perPage}
 use Rattle.words.specs.declared.Words.{Words}
-use Rattle.words.specs.Words.{longBytes, readOf}
+use Rattle.words.specs.Words.{readOf}
 use Rattle.plans.specs.declared.Plan.{Plan}
 use Rattle.collection.specs.Collection.{setupOf}
 use Rattle.controller.specs.Controller.{Candidate}
 use Rattle.sources.specs.Source.{Turn, Counters, uncounted, changed, heard, forLent}
 use Rattle.demand3.specs.Bench.{Event, Sent, Taken, Dropped, Loan, controllerSource}
+use Rattle.shared_layouts.specs.Layouts.{capsOf}
 use Rattle.state_layout.specs.Layout.{stateBytes}
 use Rattle.next_layout.specs.Layout.{send, nextBytes}
 use Rattle.host_boundary.specs.Boundary.{StepAnswer, stepAt}
@@ -112,9 +113,13 @@ wordsIn next = wordsOf (valueAt 4 4 next ∷ valueAt 4 8 next ∷ valueAt 4 12 n
 unfoldable pub judgesIn : List ℕ → Bool
 judgesIn state = eqb (getD state 0 0) 0 || eqb (getD state 0 0) 2 || eqb (getD state 0 0) 3
 
--- the data of a completion: with success as many bytes as the words ask for, from the buffer's front, and none with a refusal
-abbrev pub dataIn : Words → CommandAnswer → List ℕ
-dataIn words x = pick (eqb (x .answer) success) (take (longBytes words) (x .buf)) []
+-- as many bytes as the words ask for, with extended data in `caps` of struct bumbazeel_record or without
+abbrev pub bytesIn : Controller → Words → ℕ
+bytesIn b words = readOf (capsOf (getD (b .own) 0 0) .extended) words .bytes
+
+-- the data of a completion: with success that many bytes from the buffer's front, and none with a refusal
+abbrev pub dataIn : Controller → Words → CommandAnswer → List ℕ
+dataIn b words x = pick (eqb (x .answer) success) (take (bytesIn b words) (x .buf)) []
 
 -- after `bumbazeel_command` left x, and `bumbazeel_step` took the data d and left y
 abbrev pub stepped : Program → CommandAnswer → List ℕ → StepAnswer → Program
@@ -131,7 +136,7 @@ stepped c x d y = record {
 
 -- `bumbazeel_step` after `bumbazeel_command` of these words left x
 abbrev pub steps : Program → Words → CommandAnswer → Program
-steps c words x = stepped c x (dataIn words x) (stepAt (c .state) (eqb (x .answer) success) (dataIn words x) (c .copy))
+steps c words x = stepped c x (dataIn (c .controller) words x) (stepAt (c .state) (eqb (x .answer) success) (dataIn (c .controller) words x) (c .copy))
 
 -- a command of the program's own, with what it is lent
 unfoldable pub own : Words → Loan → Program → Program

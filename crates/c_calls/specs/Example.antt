@@ -15,7 +15,7 @@ use Rattle.header.specs.Header.{headerOf, faultOf, checkOf}
 use Rattle.records.specs.Records.{identityOk, storeOk, controllerOk, agreesWith, hostFields, controllerFields, fieldsFor, freshOf}
 use Rattle.serving.specs.Serving.{windowOf, pageBytes}
 use Rattle.verdicts.specs.Verdicts.{candidateOk, fieldBad, lastAfter, commandAnswer}
-use Rattle.plans.specs.Plans.{setupAnswer, fitsRoom, chunkBlocks, withinBy, phaseAt, wordsBy}
+use Rattle.plans.specs.Plans.{setupAnswer, inReach, fitsRoom, areaAnswer, chunkBlocks, withinBy, phaseAt, wordsBy}
 use Rattle.completions.specs.Plan.{answerTo, plannedBy, planOf}
 use Rattle.completions.specs.Completions.{lookBy, plannedSeen, seenOf, generationOf}
 use Rattle.judgement.specs.Judgement.{judgeBy, testsOf, firstOrder, matchOrder, laterOrder}
@@ -62,7 +62,7 @@ abbrev last : Program
 last = program (setupPlan 7 1 1 3 1 2 1024) (replicate 1024 9) controller loan moves
 
 pub asked : CAsked 7 1 1 3 1 2 1024 (replicate 1024 9) controller loan moves 1
-unfolding program turns turn happen happens own begins after capturesBy dropsBy judgesIn stepAt stateBytes stateAt stateIntact phaseOf nextParts nextBytes commandAt recordBytes recordAt recordIntact capsOf freshOk freshBytes setupOf setupAnswer holds stepOf decideOf refusalOf validState withinBy fitsRoom completionFits expectedOf lookOf lookBy plannedSeen planOf plannedBy answerTo seenOf checkOf faultOf lastOk sameLast generationOf moveOf judgeBy testsOf firstOrder matchOrder laterOrder turnBy turnOf actOf awaitedOf wordsBy builtOf taken phaseAt copyAfter touched putAt commandOf answered commandAnswer agreesWith storeOk controllerOk identityOk greatestOf fieldBad lastAfter candidateOk sizeOf blocksOf topOf trimmedTo trimOf before afterwards sentOf pageOf pageBytes windowOf headerOf hostFields controllerFields fieldsFor freshOf hostCaptured chunkBlocks mostChunks
+unfolding program turns turn happen happens own begins after capturesBy dropsBy judgesIn stepAt stateBytes stateAt stateIntact phaseOf nextParts nextBytes commandAt recordBytes recordAt recordIntact capsOf freshOk freshBytes setupOf setupAnswer holds stepOf decideOf refusalOf validState withinBy inReach fitsRoom areaAnswer completionFits expectedOf lookOf lookBy plannedSeen planOf plannedBy answerTo seenOf checkOf faultOf lastOk sameLast generationOf moveOf judgeBy testsOf firstOrder matchOrder laterOrder turnBy turnOf actOf awaitedOf wordsBy builtOf taken phaseAt copyAfter touched putAt commandOf answered commandAnswer agreesWith storeOk controllerOk identityOk greatestOf fieldBad lastAfter candidateOk sizeOf blocksOf topOf trimmedTo trimOf before afterwards sentOf pageOf pageBytes windowOf headerOf hostFields controllerFields fieldsFor freshOf hostCaptured chunkBlocks mostChunks
 asked = record {
   sends = refl;
   same-caps = refl;
@@ -77,5 +77,5 @@ asked = record {
 -- BUMBAZEEL_ENDED with answer 0 after five commands, as many as the bound allows; the copy is the other host's block, and then zeros
 pub example : (kindIn (last .next) ≡ ending) × (getD (last .next) 1 0 ≡ 0) × (valueAt 8 24 (last .next) ≡ 5) × (last .copy ≡ replicate 512 6 ++ zeros 512)
     × (mostCommands (setupPlan 7 1 1 3 1 2 1024) 1 (mostChunks (setupPlan 7 1 1 3 1 2 1024) (last .headers)) ≡ 5)
-unfolding program turns turn happen happens own begins after capturesBy dropsBy judgesIn stepAt stateBytes stateAt stateIntact phaseOf nextParts nextBytes commandAt recordBytes recordAt recordIntact capsOf freshOk freshBytes setupOf setupAnswer holds stepOf decideOf refusalOf validState withinBy fitsRoom completionFits expectedOf lookOf lookBy plannedSeen planOf plannedBy answerTo seenOf checkOf faultOf lastOk sameLast generationOf moveOf judgeBy testsOf firstOrder matchOrder laterOrder turnBy turnOf actOf awaitedOf wordsBy builtOf taken phaseAt copyAfter touched putAt commandOf answered commandAnswer agreesWith storeOk controllerOk identityOk greatestOf fieldBad lastAfter candidateOk sizeOf blocksOf topOf trimmedTo trimOf before afterwards sentOf pageOf pageBytes windowOf headerOf hostFields controllerFields fieldsFor freshOf hostCaptured chunkBlocks mostChunks
+unfolding program turns turn happen happens own begins after capturesBy dropsBy judgesIn stepAt stateBytes stateAt stateIntact phaseOf nextParts nextBytes commandAt recordBytes recordAt recordIntact capsOf freshOk freshBytes setupOf setupAnswer holds stepOf decideOf refusalOf validState withinBy inReach fitsRoom areaAnswer completionFits expectedOf lookOf lookBy plannedSeen planOf plannedBy answerTo seenOf checkOf faultOf lastOk sameLast generationOf moveOf judgeBy testsOf firstOrder matchOrder laterOrder turnBy turnOf actOf awaitedOf wordsBy builtOf taken phaseAt copyAfter touched putAt commandOf answered commandAnswer agreesWith storeOk controllerOk identityOk greatestOf fieldBad lastAfter candidateOk sizeOf blocksOf topOf trimmedTo trimOf before afterwards sentOf pageOf pageBytes windowOf headerOf hostFields controllerFields fieldsFor freshOf hostCaptured chunkBlocks mostChunks
 example = (refl, refl, refl, refl, refl)

@@ -9,17 +9,14 @@ use lib.ListN.{length, length-append, take, getD}
 use lib.Dec.{eqb}
 use borrow.Author.Tests.{ne-eqb}
 use Rattle.choices.specs.Choice.{pick, pick-cases, one}
-use Rattle.choices.specs.Tests.{each, and-left}
 use Rattle.answers.specs.Answers.{success}
 use Rattle.pages.specs.Pages.{hostPage, controllerPage}
-use Rattle.pages.specs.declared.Caps.{Caps}
 use Rattle.words.specs.declared.Words.{Words}
-use Rattle.words.specs.Words.{longBytes, readOf}
+use Rattle.words.specs.Words.{readOf}
 use Rattle.records.specs.declared.Record.{Record}
 use Rattle.plans.specs.declared.Plan.{Plan}
 use Rattle.plans.specs.Phases.{judgedBy}
-use Rattle.plans.specs.Plans.{planTests, setupAnswer}
-use Rattle.plans.specs.Limits.{plan-taken}
+use Rattle.plans.specs.Plans.{setupAnswer}
 use Rattle.collection.specs.declared.Collection.{Collection}
 use Rattle.collection.specs.declared.Next.{Next}
 use Rattle.collection.specs.declared.Next.the-variants.{Send, End as Ends, Refuse}
@@ -44,7 +41,7 @@ use Rattle.host_boundary.specs.Boundary.{stepAt}
 use Rattle.host_boundary.specs.Laws.{step-intact}
 use Rattle.controller_boundary.specs.Boundary.{CommandAnswer, commandAt, captureAt, dropAt}
 use Rattle.controller_boundary.specs.Laws.{command-intact, capture-intact, drop-intact}
-use Rattle.c_calls.specs.Calls.{Controller, command, capture, drop, commanded, after, capturesBy, dropsBy, Program, kindIn, wordsIn, judgesIn, dataIn, steps, own, happens, happen, turn, turns, begins, program}
+use Rattle.c_calls.specs.Calls.{Controller, command, capture, drop, commanded, after, capturesBy, dropsBy, Program, kindIn, wordsIn, judgesIn, bytesIn, dataIn, steps, own, happens, happen, turn, turns, begins, program}
 use Rattle.c_calls.specs.State.{step-typed, taken-typed, chained, step-copy, step-follows}
 use Rattle.c_calls.specs.Record.{command-chained, capture-chained, drop-chained}
 use Rattle.c_calls.specs.Next.{Small, wordsSaid, step-small, setup-small, words-back, kind-back}
@@ -263,13 +260,13 @@ module _ (p : Plan) (e : setupAnswer p ≡ success) where
   -- ---- a step: a command of the program's own left x, which is what the run's command left
 
   module _ (c : Program) (s : Stand D) (r : Same c s) (awaits : length (given (s .said)) ≡ 1)
-      (words : Words) (x : CommandAnswer) (o : Done World) (a : x .answer ≡ o .answer) (b : take (longBytes words) (x .buf) ≡ o .bytes)
+      (words : Words) (x : CommandAnswer) (o : Done World) (a : x .answer ≡ o .answer) (b : take (bytesIn (c .controller) words) (x .buf) ≡ o .bytes)
       (w : worldAt (commanded (c .controller) x) ≡ o .source) (f : Fit p (commanded (c .controller) x)) where
     abbrev ok : Bool
     ok = eqb (x .answer) success
 
     abbrev d : List ℕ
-    d = dataIn words x
+    d = dataIn (c .controller) words x
 
     fine-is : ok ≡ fine o
     fine-is = ap (λ (n : ℕ). eqb n success) a
@@ -316,12 +313,10 @@ module _ (p : Plan) (e : setupAnswer p ≡ success) where
 
   -- ---- a turn
 
-  -- as many bytes as the words ask for, the controller having extended data
-  asks : (b : Controller) → Fit p b → (words : Words) → longBytes words ≡ asked (worldAt b) words .bytes
-  asks b f words =
-      let t : worldAt b .own .caps .extended ≡ true =
-      ap (λ (c : Caps). c .extended) (f .good .caps) ∙ and-left (p .caps .extended) (p .caps .telemetry) (each (planTests p) (plan-taken p e .0) 5) in
-      rw t
+  -- as many bytes as the words ask for
+  asks : (b : Controller) (words : Words) → bytesIn b words ≡ asked (worldAt b) words .bytes
+  unfolding recordAt
+  asks b words = refl
 
   -- the program's own command is the run's
   own-same : (words : Words) (l : Loan) (c : Program) (s : Stand D) → Same c s → length (given (s .said)) ≡ 1
@@ -334,8 +329,8 @@ module _ (p : Plan) (e : setupAnswer p ≡ success) where
       subst (λ (u : World). Same (own words l c) (runHears s (ownOf l words u))) (r .source)
       (steps-same c s r awaits words (command b k words (l .buf)) (ownOf l words (worldAt b))
       (command-answers b (r .fit .intact) k words (l .buf))
-      (ap (λ (m : List ℕ). take (longBytes words) m) (command-fills b (r .fit .intact) k words (l .buf))
-      ∙ ap (λ (n : ℕ). take n (commandOf (worldAt b) k words (l .buf) .buf)) (asks b (r .fit) words))
+      (ap (λ (m : List ℕ). take (bytesIn b words) m) (command-fills b (r .fit .intact) k words (l .buf))
+      ∙ ap (λ (n : ℕ). take n (commandOf (worldAt b) k words (l .buf) .buf)) (asks b words))
       (after-world p sent b (r .fit))
       (after-fit p sent b (r .fit)))
 

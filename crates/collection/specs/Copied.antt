@@ -6,19 +6,19 @@ use mathlib.Core.Path.{_≡_, refl, sym, ap, _∙_}
 use mathlib.Core.List.{List, _++_}
 use mathlib.Core.Bool.{Bool, true, false}
 use native.Mathlib.Omega.{arith}
-use lib.ListN.{length, take}
+use lib.ListN.{length, take, length-drop}
 use Rattle.choices.specs.Tests.{same-or-not}
 use Rattle.copies.specs.Parts.{zeros, put, put-fits}
 use Rattle.answers.specs.Answers.{success}
 use Rattle.pages.specs.Pages.{block}
 use Rattle.words.specs.declared.Words.{Words}
 use Rattle.plans.specs.declared.Phase.the-variants.{Chunk}
-use Rattle.plans.specs.Plans.{areaLast, areaBytes, chunkBlocks}
+use Rattle.plans.specs.Plans.{areaLast, areaBytes, chunkOf, leadOf, chunkIn, chunkBlocks}
 use Rattle.plans.specs.Limits.{chunk-inside, chunk-ends, fits-room}
 use Rattle.completions.specs.declared.Seen.{Seen}
 use Rattle.turns.specs.Touched.{touched, touched-length, zeros-after, zeros-all}
 use Rattle.judgement.specs.declared.Ending.{Ending}
-use Rattle.judgement.specs.declared.Ending.the-variants.{Success, NoRoom}
+use Rattle.judgement.specs.declared.Ending.the-variants.{Success}
 use Rattle.judgement.specs.declared.Move.{Move}
 use Rattle.judgement.specs.declared.Move.the-variants.{End, Open, More, Skip, Acknowledge}
 use Rattle.judgement.specs.Judgement.{newerThan, testsOf, judgeBy}
@@ -35,34 +35,40 @@ use Rattle.collection.specs.Steps.{makes, touches, refused-step, refused
 pub area-within : (s : Collection) (ok : Bool) (bytes copy : ℕ) → refusalOf s ok bytes copy ≡ success → areaBytes (s .plan) (s .attempt .last) ≤ copy
 area-within s ok bytes copy r =
     let t = not-refused s ok bytes copy r in
-    let f = fits-room (s .plan) (s .attempt .last) (state-valid s (t .state) .room) in
+    let f = fits-room (s .plan) (s .attempt .last) (state-valid s (t .state) .area) in
     omega arith
 
--- a good chunk has its length, and lies within the area
-chunk-fits : (s : Collection) (at bytes copy : ℕ) → s .phase ≡ Chunk at → refusalOf s true bytes copy ≡ success → block * (at - 1) + bytes ≤ copy
+-- a good chunk has its length after the blocks in front of it, and lies within the area
+pub chunk-length : (s : Collection) (at : ℕ) (d : List ℕ) (copy : ℕ) → s .phase ≡ Chunk at → refusalOf s true (length d) copy ≡ success
+    → length (chunkIn (s .plan) d) ≡ block * chunkBlocks (chunkOf (s .plan)) at (areaLast (s .plan) (s .attempt .last))
 unfolding expectedOf
-chunk-fits s at bytes copy f r =
-    let t = not-refused s true bytes copy r in
-    let k = state-valid s (t .state) in
-    let i = chunk-inside at (areaLast (s .plan) (s .attempt .last)) (rw f at (k .inside)) in
-    let e = chunk-ends (s .plan .chunk) at (areaLast (s .plan) (s .attempt .last)) (i .1) in
-    let l : bytes ≡ block * chunkBlocks (s .plan .chunk) at (areaLast (s .plan) (s .attempt .last)) = rw f at (t .bytes-fit) in
-    let w = area-within s true bytes copy r in
-    omega arith
+chunk-length s at d copy f r =
+    let l : length d ≡ block * (leadOf (s .plan) + chunkBlocks (chunkOf (s .plan)) at (areaLast (s .plan) (s .attempt .last))) = rw f at (not-refused s true (length d) copy r .bytes-fit) in
+    length-drop (block * leadOf (s .plan)) d ∙ omega arith
+
+chunk-fits : (s : Collection) (at : ℕ) (d : List ℕ) (copy : ℕ) → s .phase ≡ Chunk at → refusalOf s true (length d) copy ≡ success
+    → block * (at - 1) + length (chunkIn (s .plan) d) ≤ copy
+chunk-fits s at d copy f r =
+    let k = state-valid s (not-refused s true (length d) copy r .state) in
+    let i = chunk-inside (s .plan) (s .attempt .last) at (rw f at (k .inside)) in
+    let e = chunk-ends (chunkOf (s .plan)) at (areaLast (s .plan) (s .attempt .last)) (i .high) in
+    let l = chunk-length s at d copy f r in
+    let w = area-within s true (length d) copy r in
+    omega (arith, i .low, i .high)
 
 -- no step changes the copy's length
 pub copy-length : (s : Collection) (ok : Bool) (d copy : List ℕ) → length (copyAfter s ok d copy) ≡ length copy
 unfolding copyAfter
 copy-length s ok d copy = touched-length (decideOf s ok (length d) (length copy) (lookOf s d) .touch) d copy
 
--- ---- a good chunk goes into the copy at its offset less the header, and no other byte changes
+-- ---- a good chunk goes into the copy at its block less the header, and no other byte changes
 
 pub chunk-copy : (s : Collection) (at : ℕ) (d copy : List ℕ) → s .phase ≡ Chunk at → refusalOf s true (length d) (length copy) ≡ success
-    → (block * (at - 1) + length d ≤ length copy) × (copyAfter s true d copy ≡ put copy (block * (at - 1)) d)
+    → (block * (at - 1) + length (chunkIn (s .plan) d) ≤ length copy) × (copyAfter s true d copy ≡ put copy (block * (at - 1)) (chunkIn (s .plan) d))
 unfolding moveOf judgeBy testsOf touches touched
 chunk-copy s at d copy f r =
-    let l = chunk-fits s at (length d) (length copy) f r in
-    (l, taken-copy s true d copy r ∙ rw f (put-fits copy (block * (at - 1)) d l))
+    let l = chunk-fits s at d (length copy) f r in
+    (l, taken-copy s true d copy r ∙ rw f (put-fits copy (block * (at - 1)) (chunkIn (s .plan) d) l))
 
 -- ---- endings
 
@@ -111,7 +117,7 @@ module _ (s : Collection) (d copy : List ℕ) (e : Finish) (w : areaBytes (s .pl
   unfolding makes
   moves ok h = record {
     fail = λ x l t. ended h x false;
-    large = λ f l. ended h NoRoom true;
+    short = λ x y t f l. ended h x true;
     first = λ f r. goes-on h (Open false) _ refl;
     again = λ f l r. goes-on h (Open true) _ refl;
     more = λ at f y. goes-on h (More at) _ refl;
@@ -146,7 +152,7 @@ sending-copy s ok d copy x q other =
     taken-copy s ok d copy r
     ∙ move-cases (Keeps s d copy x (lookOf s d)) s ok (lookOf s d) (record {
       fail = λ n l t p. not-sent (sym p);
-      large = λ f l p. not-sent (sym p);
+      short = λ x y t f l p. not-sent (sym p);
       first = λ f l p. refl;
       again = λ f l a p. refl;
       more = λ at f y. absurd (other at f y);

@@ -10,7 +10,7 @@ use lib.Dec.{leb, eqb}
 use borrow.Author.Tests.{leb-true, leb-false, eqb-true, eqb-false, ne-eqb, not-true, not-false}
 use Rattle.choices.specs.Choice.{pick, pick-cases}
 use Rattle.choices.specs.Tests.{each, and-left, and-right, clash}
-use Rattle.answers.specs.Answers.{success, badHeader, noRoom, nothing}
+use Rattle.answers.specs.Answers.{success, badHeader, noRoom, nothing, outOfReach}
 use Rattle.pages.specs.Pages.{controllerPage}
 use Rattle.header.specs.declared.Fault.{Fault}
 use Rattle.header.specs.declared.Fault.the-variants.{None}
@@ -18,13 +18,13 @@ use Rattle.header.specs.Header.{faultless}
 use Rattle.plans.specs.declared.Phase.{Phase}
 use Rattle.plans.specs.declared.Phase.the-variants.{First, Chunk, Close, Ack, Ended}
 use Rattle.plans.specs.Phases.{judgedBy, closingBy, endedBy}
-use Rattle.plans.specs.Plans.{setupAnswer, areaLast, fitsRoom, insideBy, withinBy}
-use Rattle.plans.specs.Limits.{plan-limits}
+use Rattle.plans.specs.Plans.{setupAnswer, areaAnswer, fits, insideBy, withinBy}
+use Rattle.plans.specs.Limits.{plan-limits, unopposed-fits}
 use Rattle.completions.specs.declared.Seen.{Seen}
 use Rattle.completions.specs.Completions.{showsNone}
 use Rattle.completions.specs.Looked.{TakenByPlan, Opens}
 use Rattle.judgement.specs.declared.Ending.{Ending}
-use Rattle.judgement.specs.declared.Ending.the-variants.{Success, BadHeader, NoRoom, UsedUp, Withdrawn, Nothing, BrokeItsWord}
+use Rattle.judgement.specs.declared.Ending.the-variants.{Success, BadHeader, OutOfReach, NoRoom, UsedUp, Withdrawn, Nothing, BrokeItsWord}
 use Rattle.judgement.specs.declared.Move.{Move}
 use Rattle.judgement.specs.declared.Move.the-variants.{End, Open, More, Skip, Acknowledge}
 use Rattle.judgement.specs.Endings.{numberOf, faultIn}
@@ -43,8 +43,8 @@ pub record Valid (s : Collection) : Type 0 where
   pub attempt-low : 1 ≤ s .attempt .number
   pub attempt-high : s .attempt .number ≤ s .plan .attempts
   pub count : s .count ≤ mostCount (s .plan .attempts)
-  pub room : fitsRoom (s .plan) (s .attempt .last) ≡ true
-  pub inside : insideBy (s .phase) (areaLast (s .plan) (s .attempt .last)) ≡ true
+  pub area : fits (s .plan) (s .attempt .last) ≡ true
+  pub inside : insideBy (s .phase) (s .plan) (s .attempt .last) ≡ true
 
 pub state-valid : (s : Collection) → validState s ≡ true → Valid s
 unfolding validState withinBy
@@ -53,8 +53,8 @@ state-valid s e = record {
   attempt-low = leb-true _ _ (and-left (leb 1 (s .attempt .number)) (leb (s .attempt .number) (s .plan .attempts)) (each _ e 1));
   attempt-high = leb-true _ _ (and-right (leb 1 (s .attempt .number)) (leb (s .attempt .number) (s .plan .attempts)) (each _ e 1));
   count = leb-true _ _ (each _ e 2);
-  room = and-left (fitsRoom (s .plan) (s .attempt .last)) (insideBy (s .phase) (areaLast (s .plan) (s .attempt .last))) (each _ e 3);
-  inside = and-right (fitsRoom (s .plan) (s .attempt .last)) (insideBy (s .phase) (areaLast (s .plan) (s .attempt .last))) (each _ e 3);
+  area = and-left (fits (s .plan) (s .attempt .last)) (insideBy (s .phase) (s .plan) (s .attempt .last)) (each _ e 3);
+  inside = and-right (fits (s .plan) (s .attempt .last)) (insideBy (s .phase) (s .plan) (s .attempt .last)) (each _ e 3);
 }
 
 pub valid-bounded : (s : Collection) → validState s ≡ true → Bounded s
@@ -130,7 +130,7 @@ says-nothing {number = number} x t =
 -- all moves that a completion can call for in a state, each with what holds then
 pub record Moves (P : Move → Type 0) (s : Collection) (ok : Bool) (h : Seen) : Type 0 where
   pub fail : (e : Ending) → good e ≡ false → Says s ok h (numberOf e) (faultIn e) → P (End e false)
-  pub large : closingBy (s .phase) ≡ true → s .attempt .number < s .plan .attempts → P (End NoRoom true)
+  pub short : (e : Ending) → good e ≡ false → Says s ok h (numberOf e) (faultIn e) → closingBy (s .phase) ≡ true → s .attempt .number < s .plan .attempts → P (End e true)
   pub first : s .phase ≡ First → TakenByPlan h → P (Open false)
   pub again : closingBy (s .phase) ≡ true → s .attempt .number < s .plan .attempts → Opens (s .plan) h → P (Open true)
   pub more : (at : ℕ) → s .phase ≡ Chunk at → ok ≡ true → P (More at)
@@ -155,7 +155,9 @@ module _ (P : Move → Type 0) (s : Collection) (ok : Bool) (h : Seen) (m : Move
       (λ q. let a : after ≡ false = rw q at b in m .stand (e ∙ ap Close a) q (rw q at w))
       (λ q. pick-cases P (leb (s .plan .attempts) (s .attempt .number)) (λ u. m .fail UsedUp refl (says-nothing refl refl))
       (λ u. let l = leb-false (s .plan .attempts) (s .attempt .number) u in
-      pick-cases P (not (fitsRoom (s .plan) (h .last))) (λ r. m .large f l) (λ r. m .again f l (record { good = not-false _ g; some = n; fits = not-false _ r }))))))
+      pick-cases P (eqb (areaAnswer (s .plan) (h .last)) outOfReach) (λ o. m .short OutOfReach refl (says-nothing refl refl) f l)
+      (λ o. pick-cases P (eqb (areaAnswer (s .plan) (h .last)) noRoom) (λ r. m .short NoRoom refl (says-nothing refl refl) f l)
+      (λ r. m .again f l (record { good = not-false _ g; some = n; fits = unopposed-fits (s .plan) (h .last) o r })))))))
 
   -- a bad header, a first one by its plan and a later one by its fault
   by-plan-of : s .phase ≡ First → not ok ≡ false → h .answer ≡ badHeader → P (End (BadHeader (h .fault)) false)
@@ -180,7 +182,8 @@ module _ (P : Move → Type 0) (s : Collection) (ok : Bool) (h : Seen) (m : Move
       pick-cases P (not ok) (λ k. m .fail BrokeItsWord refl (says-nothing refl refl))
       (λ k. pick-cases P (eqb (h .answer) badHeader) (λ g. by-plan-of e k (eqb-true _ _ g))
       (λ g. pick-cases P (eqb (h .answer) nothing) (λ n. m .fail Nothing refl (says-nothing refl refl))
-      (λ n. pick-cases P (eqb (h .answer) noRoom) (λ r. m .fail NoRoom refl (says-nothing refl refl)) (λ r. m .first e (record { good = g; some = n; fits = r })))))
+      (λ n. pick-cases P (eqb (h .answer) outOfReach) (λ o. m .fail OutOfReach refl (says-nothing refl refl))
+      (λ o. pick-cases P (eqb (h .answer) noRoom) (λ r. m .fail NoRoom refl (says-nothing refl refl)) (λ r. m .first e (record { good = g; some = n; near = o; room = r }))))))
   by-phase (Chunk at) e = pick-cases P (not ok) (λ k. m .skip at e (not-true ok k)) (λ k. m .more at e (not-false _ k))
   by-phase (Close after) e =
       pick-cases P (not ok) (λ k. m .fail BrokeItsWord refl (says-nothing refl refl))

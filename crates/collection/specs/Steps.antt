@@ -7,7 +7,7 @@ use mathlib.Core.List.{List}
 use mathlib.Core.Bool.{Bool, true, false}
 use lib.ListN.{length}
 use lib.Dec.{eqb}
-use borrow.Author.Tests.{eq-eqb, ne-eqb, le-leb, lt-leb}
+use borrow.Author.Tests.{eqb-true, eq-eqb, ne-eqb, le-leb, lt-leb}
 use Rattle.choices.specs.Choice.{pick}
 use Rattle.choices.specs.Tests.{each}
 use Rattle.answers.specs.Answers.{success}
@@ -17,16 +17,18 @@ use Rattle.plans.specs.declared.Plan.{Plan}
 use Rattle.plans.specs.declared.Phase.{Phase}
 use Rattle.plans.specs.declared.Phase.the-variants.{First, Chunk, Close, Ack, Ended}
 use Rattle.plans.specs.Phases.{closingBy, refusedBy, endedBy, closing-is}
-use Rattle.plans.specs.Plans.{setupAnswer, areaBytes, fitsRoom}
+use Rattle.plans.specs.Plans.{setupAnswer, areaBytes, areaAnswer, fits, leadOf}
+use Rattle.plans.specs.Limits.{short-is}
 use Rattle.plans.specs.Awaited.{Awaits, awaited-built}
 use Rattle.completions.specs.declared.Seen.{Seen}
 use Rattle.turns.specs.declared.Touch.{Touch}
 use Rattle.turns.specs.declared.Touch.the-variants.{Keep, Place}
 use Rattle.completions.specs.Completions.{plannedSeen, seenOf, lookBy, showsNone}
-use Rattle.completions.specs.Looked.{look-closing, planned-bad, planned-none, planned-large, planned-opens}
-use Rattle.judgement.specs.declared.Ending.the-variants.{Success, BadHeader, NoRoom, UsedUp, Withdrawn, Nothing, BrokeItsWord}
+use Rattle.completions.specs.Looked.{look-closing, planned-bad, planned-none, planned-by-area, planned-opens}
+use Rattle.judgement.specs.declared.Ending.the-variants.{Success, BadHeader, OutOfReach, NoRoom, UsedUp, Withdrawn, Nothing, BrokeItsWord}
 use Rattle.judgement.specs.declared.Move.{Move}
 use Rattle.judgement.specs.declared.Move.the-variants.{End, Open, More, Skip, Acknowledge}
+use Rattle.judgement.specs.Endings.{shortBy}
 use Rattle.judgement.specs.Judgement.{matches, newerThan, testsOf, firstOrder, matchOrder, laterOrder, judgeBy}
 use Rattle.turns.specs.Turns.{openingOf, followingOf, leftBy, turnOf}
 use Rattle.turns.specs.Touched.{touched}
@@ -78,7 +80,7 @@ made-is s h Acknowledge = refl
 unfoldable pub touches : Collection → Move → Touch
 touches s (End e next) = leftBy e (areaBytes (s .plan) (s .attempt .last))
 touches s (Open next) = Keep
-touches s (More at) = Place (block * (at - 1))
+touches s (More at) = Place (block * leadOf (s .plan)) (block * (at - 1))
 touches s Skip = Keep
 touches s Acknowledge = Keep
 
@@ -151,7 +153,7 @@ module _ (s : Collection) (ok : Bool) (d : List ℕ) (n : ℕ) (r : refusalOf s 
       ∙ ap (λ (x : Move). makes s (lookOf s d) x)
       (ap (λ (g : Phase). judgeBy g (testsOf (s .plan) (s .attempt) ok (lookOf s d))) p ∙ e)
 
--- ---- the first header: 12, and then as its plan answers, 7, 11, 8, or it opens the attempt. What the check finds in it decides that.
+-- ---- the first header: 12, and then as its plan answers, 7, 11, 19, 8, or it opens the attempt. What the check finds in it decides that.
 
 module _ (s : Collection) (ok : Bool) (d : List ℕ) (n : ℕ) (r : refusalOf s ok (length d) n ≡ success) (f : s .phase ≡ First) where
   -- setup takes the plan of a state that is not refused
@@ -184,12 +186,16 @@ module _ (s : Collection) (ok : Bool) (d : List ℕ) (n : ℕ) (r : refusalOf s 
       unfolding makes firstOrder testsOf
       first-none w = first (End Nothing false) (rw (k, planned-none (s .plan) d plan-is g w))
 
-      pub first-large : showsNone (s .plan) (seenOf (s .plan) d) ≡ false → fitsRoom (s .plan) (seenOf (s .plan) d .last) ≡ false
-          → stepOf s ok d n ≡ ends (endedIn s false) NoRoom
+      pub first-short : showsNone (s .plan) (seenOf (s .plan) d) ≡ false → fits (s .plan) (seenOf (s .plan) d .last) ≡ false
+          → stepOf s ok d n ≡ ends (endedIn s false) (shortBy (areaAnswer (s .plan) (seenOf (s .plan) d .last)))
       unfolding makes firstOrder testsOf
-      first-large w l = first (End NoRoom false) (rw (k, planned-large (s .plan) d plan-is g w l))
+      first-short w l =
+          let a = planned-by-area (s .plan) d plan-is g w in
+          short-is (s .plan) (seenOf (s .plan) d .last) l
+          (λ o b. first (End OutOfReach false) (rw (k, a ∙ b)) ∙ rw b)
+          (λ o r b. first (End NoRoom false) (rw (k, a ∙ b)) ∙ rw b)
 
-      pub first-opens : showsNone (s .plan) (seenOf (s .plan) d) ≡ false → fitsRoom (s .plan) (seenOf (s .plan) d .last) ≡ true
+      pub first-opens : showsNone (s .plan) (seenOf (s .plan) d) ≡ false → fits (s .plan) (seenOf (s .plan) d .last) ≡ true
           → stepOf s ok d n ≡ sends (openedBy s false (seenOf (s .plan) d))
       unfolding makes firstOrder testsOf seenOf
       first-opens w l =
@@ -207,7 +213,7 @@ module _ (s : Collection) (at : ℕ) (d : List ℕ) (n : ℕ) (f : s .phase ≡ 
   unfolding makes judgeBy testsOf
   chunk-refused r = moved s false d n r (Chunk at) Skip f refl
 
--- ---- a later header: 12, 7, 10; on a match 12 after a refused chunk, success on 07h, the acknowledgement on 08h; on a mismatch 9, 8, or it
+-- ---- a later header: 12, 7, 10; on a match 12 after a refused chunk, success on 07h, the acknowledgement on 08h; on a mismatch 9, 19, 8, or it
 -- opens the next attempt. What the check finds in it decides that.
 
 module _ (s : Collection) (ok : Bool) (d : List ℕ) (n : ℕ) (r : refusalOf s ok (length d) n ≡ success) (f : closingBy (s .phase) ≡ true) where
@@ -256,15 +262,19 @@ module _ (s : Collection) (ok : Bool) (d : List ℕ) (n : ℕ) (r : refusalOf s 
         unfolding makes laterOrder matchOrder testsOf
         later-used-up q u = later (End UsedUp false) (rw (q, k, g, w, le-leb (s .plan .attempts) (s .attempt .number) u))
 
-        pub later-large : matches (s .attempt) (seenOf (s .plan) d) ≡ false → s .attempt .number < s .plan .attempts → fitsRoom (s .plan) (seenOf (s .plan) d .last) ≡ false
-            → stepOf s ok d n ≡ ends (endedIn s true) NoRoom
+        pub later-short : matches (s .attempt) (seenOf (s .plan) d) ≡ false → s .attempt .number < s .plan .attempts → fits (s .plan) (seenOf (s .plan) d .last) ≡ false
+            → stepOf s ok d n ≡ ends (endedIn s true) (shortBy (areaAnswer (s .plan) (seenOf (s .plan) d .last)))
         unfolding makes laterOrder matchOrder testsOf
-        later-large q u l = later (End NoRoom true) (rw (q, k, g, w, lt-leb (s .plan .attempts) (s .attempt .number) u, l))
+        later-short q u l =
+            let v = lt-leb (s .plan .attempts) (s .attempt .number) u in
+            short-is (s .plan) (seenOf (s .plan) d .last) l
+            (λ o b. later (End OutOfReach true) (rw (q, k, g, w, v, b)) ∙ rw b)
+            (λ o r b. later (End NoRoom true) (rw (q, k, g, w, v, b)) ∙ rw b)
 
-        pub later-opens : matches (s .attempt) (seenOf (s .plan) d) ≡ false → s .attempt .number < s .plan .attempts → fitsRoom (s .plan) (seenOf (s .plan) d .last) ≡ true
+        pub later-opens : matches (s .attempt) (seenOf (s .plan) d) ≡ false → s .attempt .number < s .plan .attempts → fits (s .plan) (seenOf (s .plan) d .last) ≡ true
             → stepOf s ok d n ≡ sends (openedBy s true (seenOf (s .plan) d))
         unfolding makes laterOrder matchOrder testsOf
-        later-opens q u l = later (Open true) (rw (q, k, g, w, lt-leb (s .plan .attempts) (s .attempt .number) u, l))
+        later-opens q u l = later (Open true) (rw (q, k, g, w, lt-leb (s .plan .attempts) (s .attempt .number) u, eqb-true (areaAnswer (s .plan) (seenOf (s .plan) d .last)) success l))
 
 -- ---- the acknowledgement: 12, or success, with the newer generation said
 

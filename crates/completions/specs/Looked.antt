@@ -7,21 +7,22 @@ use mathlib.Core.List.{List}
 use mathlib.Core.Bool.{true, false}
 use native.Mathlib.Omega.{arith}
 use lib.Dec.{eqb}
-use borrow.Author.Tests.{eqb-false}
+use borrow.Author.Tests.{eqb-true, eqb-false}
 use Rattle.choices.specs.Choice.{pick-cases}
 use Rattle.choices.specs.Tests.{holds, each, by-test}
-use Rattle.answers.specs.Answers.{success, badHeader, noRoom, nothing}
+use Rattle.answers.specs.Answers.{success, badHeader, noRoom, nothing, outOfReach}
 use Rattle.header.specs.declared.Checked.{Checked}
 use Rattle.header.specs.Header.{faultless, checkOf}
 use Rattle.plans.specs.declared.Plan.{Plan}
 use Rattle.plans.specs.declared.Phase.{Phase}
 use Rattle.plans.specs.declared.Phase.the-variants.{First}
 use Rattle.plans.specs.Phases.{judgedBy, closingBy, closing-is, by-header}
-use Rattle.plans.specs.Plans.{planTests, setupAnswer, fitsRoom, chunksOf}
-use Rattle.plans.specs.Limits.{plan-taken}
+use Rattle.plans.specs.Plans.{planTests, setupAnswer, inReach, fitsRoom, areaAnswer, fits, chunksOf}
+use Rattle.plans.specs.Limits.{plan-taken, short-is}
 use Rattle.completions.specs.declared.Planned.{Planned}
 use Rattle.completions.specs.declared.Seen.{Seen}
 use Rattle.completions.specs.Plan.{leastPlan, answerTo, plannedBy, planOf, planBy}
+use Rattle.completions.specs.Planned.{planned-answer}
 use Rattle.completions.specs.Completions.{plannedSeen, seenOf, lookBy, showsNone}
 
 -- where a header closes an attempt, the data is looked at as the check finds it
@@ -63,25 +64,31 @@ module _ (p : Plan) (d : List ℕ) (taken : setupAnswer p ≡ success) where
     planned-none n = ap (λ (x : Planned). x .answer) (answers {n = nothing} (rw (least-taken p taken, plan-taken p taken .1, g, n)))
 
     module _ (n : showsNone p (seenOf p d) ≡ false) where
-      pub planned-large : fitsRoom p (seenOf p d .last) ≡ false → plannedSeen p d .answer ≡ noRoom
-      unfolding plannedSeen seenOf plannedBy answerTo fitsRoom
-      planned-large l = ap (λ (x : Planned). x .answer) (answers {n = noRoom} (rw (least-taken p taken, plan-taken p taken .1, g, n, l)))
+      -- the plan answers as the area does
+      by-area : answerTo (least p) found ≡ areaAnswer p (seenOf p d .last)
+      unfolding seenOf answerTo areaAnswer inReach fitsRoom
+      by-area = rw (least-taken p taken, plan-taken p taken .1, g, n)
 
-      pub planned-opens : fitsRoom p (seenOf p d .last) ≡ true → plannedSeen p d ≡ seenOf p d
-      unfolding plannedSeen seenOf plannedBy answerTo fitsRoom
-      planned-opens l = rw (answers {n = success} (rw (least-taken p taken, plan-taken p taken .1, g, n, l)))
+      pub planned-by-area : plannedSeen p d .answer ≡ areaAnswer p (seenOf p d .last)
+      unfolding plannedSeen
+      planned-by-area = planned-answer (p .page) (p .area) (p .caps) (p .chunk) (p .room) d ∙ by-area
 
--- what is seen of a first header speaks against no attempt: its plan answers none of 7, 11, 8
+      pub planned-opens : fits p (seenOf p d .last) ≡ true → plannedSeen p d ≡ seenOf p d
+      unfolding plannedSeen seenOf plannedBy
+      planned-opens l = rw (answers {n = success} (by-area ∙ eqb-true _ success l))
+
+-- what is seen of a first header speaks against no attempt: its plan answers none of 7, 11, 19, 8
 pub record TakenByPlan (h : Seen) : Type 0 where
   pub good : eqb (h .answer) badHeader ≡ false
   pub some : eqb (h .answer) nothing ≡ false
-  pub fits : eqb (h .answer) noRoom ≡ false
+  pub near : eqb (h .answer) outOfReach ≡ false
+  pub room : eqb (h .answer) noRoom ≡ false
 
--- what is seen of a header opens an attempt: it is good, has data, and its area fits the copy
+-- what is seen of a header opens an attempt: it is good, has data, and its area can be collected
 pub record Opens (p : Plan) (h : Seen) : Type 0 where
   pub good : faultless (h .fault) ≡ true
   pub some : showsNone p h ≡ false
-  pub fits : fitsRoom p (h .last) ≡ true
+  pub fits : fits p (h .last) ≡ true
 
 -- a first header that its plan takes is seen as the check finds it, and that opens an attempt
 pub record SeenAsChecked (p : Plan) (d : List ℕ) : Type 0 where
@@ -92,15 +99,16 @@ pub record SeenAsChecked (p : Plan) (d : List ℕ) : Type 0 where
 pub by-plan : {A : Type 0} (p : Plan) (d : List ℕ) → setupAnswer p ≡ success
     → (faultless (seenOf p d .fault) ≡ false → plannedSeen p d .answer ≡ badHeader → plannedSeen p d .fault ≡ seenOf p d .fault → A)
     → (faultless (seenOf p d .fault) ≡ true → showsNone p (seenOf p d) ≡ true → plannedSeen p d .answer ≡ nothing → A)
-    → (faultless (seenOf p d .fault) ≡ true → showsNone p (seenOf p d) ≡ false → fitsRoom p (seenOf p d .last) ≡ false → plannedSeen p d .answer ≡ noRoom → A)
+    → (faultless (seenOf p d .fault) ≡ true → showsNone p (seenOf p d) ≡ false → fits p (seenOf p d .last) ≡ false
+    → plannedSeen p d .answer ≡ areaAnswer p (seenOf p d .last) → A)
     → (SeenAsChecked p d → A) → A
-by-plan p d taken bad none large opens =
+by-plan p d taken bad none short opens =
     by-test (faultless (seenOf p d .fault))
     (λ g. by-test (showsNone p (seenOf p d))
     (λ n. none g n (planned-none p d taken g n))
-    (λ n. by-test (fitsRoom p (seenOf p d .last))
+    (λ n. by-test (fits p (seenOf p d .last))
     (λ l. opens (record { seen = planned-opens p d taken g n l; opens = record { good = g; some = n; fits = l } }))
-    (λ l. large g n l (planned-large p d taken g n l))))
+    (λ l. short g n l (planned-by-area p d taken g n))))
     (λ g. let b = planned-bad p d taken g in bad g (b .0) (b .1))
 
 pub taken-as-checked : (p : Plan) (d : List ℕ) → setupAnswer p ≡ success → TakenByPlan (plannedSeen p d) → SeenAsChecked p d
@@ -108,7 +116,8 @@ taken-as-checked p d taken o =
     by-plan p d taken
     (λ g a f. absurd (eqb-false _ badHeader (o .good) a))
     (λ g n a. absurd (eqb-false _ nothing (o .some) a))
-    (λ g n l a. absurd (eqb-false _ noRoom (o .fits) a))
+    (λ g n l a.
+    short-is p (seenOf p d .last) l (λ f b. absurd (eqb-false _ outOfReach (o .near) (a ∙ b))) (λ f r b. absurd (eqb-false _ noRoom (o .room) (a ∙ b))))
     (λ x. x)
 
 -- and so does one whose plan answers 0
@@ -118,14 +127,14 @@ success-opens p d taken e =
     by-plan p d taken
     (λ g a f. absurd (omega (arith, sym e ∙ a)))
     (λ g n a. absurd (omega (arith, sym e ∙ a)))
-    (λ g n l a. absurd (omega (arith, sym e ∙ a)))
+    (λ g n l a. absurd (eqb-false _ success l (sym a ∙ e)))
     (λ x. x .opens)
 
 -- the number of chunks of a plan, from a header that opens an attempt, and from any other
 pub opens-chunks : (p : Plan) (d : List ℕ) → setupAnswer p ≡ success → Opens p (seenOf p d) → planBy p d .chunks ≡ chunksOf p (seenOf p d .last)
-unfolding seenOf plannedBy answerTo fitsRoom
+unfolding seenOf plannedBy
 opens-chunks p d taken o =
-    ap (λ (x : Planned). x .chunks) (answers p d taken {n = success} (rw (least-taken p taken, plan-taken p taken .1, o .good, o .some, o .fits)))
+    ap (λ (x : Planned). x .chunks) (answers p d taken {n = success} (by-area p d taken (o .good) (o .some) ∙ eqb-true _ success (o .fits)))
 
 pub chunks-at-most : (p : Plan) (d : List ℕ) → planBy p d .chunks ≤ chunksOf p (seenOf p d .last)
 unfolding seenOf planOf plannedBy
@@ -143,7 +152,7 @@ planned-at-fault p d taken e =
     by-plan p d taken
     (λ g a f. g)
     (λ g n a. absurd (omega (arith, sym e ∙ a)))
-    (λ g n l a. absurd (omega (arith, sym e ∙ a)))
+    (λ g n l a. short-is p (seenOf p d .last) l (λ f b. absurd (omega (arith, sym e ∙ a ∙ b))) (λ f r b. absurd (omega (arith, sym e ∙ a ∙ b))))
     (λ x. absurd (omega (arith, sym e ∙ ap (λ (h : Seen). h .answer) (x .seen))))
 
 -- a bad header, a first one by its plan or a later one by its fault: the check finds it so, and what is seen is at fault

@@ -1,5 +1,5 @@
--- Document 02, Q-4: one operation checks a header and plans a collection from it. It takes the page, the wanted area, the capabilities, c, the room and the
--- header, and gives what the header says with the number of chunks, or why not: 13 and 6 by setup's limits, then 7, 11, 8 as at a first header.
+-- Document 02, Q-4 and Q-10: one operation checks a header and plans a collection from it. It takes the page, the wanted area, the capabilities, c, the room and
+-- the header, and gives what the header says with the number of chunks, or why not: 13 and 6 by setup's limits, then 7, 11, 19, 8 as at a first header.
 -- Assumes nothing.
 use Prim.Native.Nat.{ℕ}
 use mathlib.Core.List.{List, [], _∷_}
@@ -7,7 +7,7 @@ use mathlib.Core.Bool.{Bool, false, not, _&&_}
 use lib.Dec.{eqb}
 use Rattle.choices.specs.Choice.{pick, firstThat}
 use Rattle.choices.specs.Tests.{holds}
-use Rattle.answers.specs.Answers.{success, noArea4, badHeader, noRoom, nothing, badSetup}
+use Rattle.answers.specs.Answers.{success, noArea4, badHeader, noRoom, nothing, badSetup, outOfReach}
 use Rattle.pages.specs.declared.Caps.{Caps}
 use Rattle.pages.specs.Pages.{controllerPage}
 use Rattle.header.specs.declared.Fault.{Fault}
@@ -15,16 +15,17 @@ use Rattle.header.specs.declared.Fault.the-variants.{None}
 use Rattle.header.specs.declared.Checked.{Checked}
 use Rattle.header.specs.Header.{faultless, noFields, checkOf}
 use Rattle.plans.specs.declared.Plan.{Plan}
-use Rattle.plans.specs.Plans.{planTests, withoutArea4, fitsRoom, chunksOf}
+use Rattle.plans.specs.Plans.{planTests, withoutArea4, fitsRoom, inReach, chunksOf}
 use Rattle.completions.specs.declared.Planned.{Planned}
 
--- the order of refusals: 13 where setup's limits do not hold, 6, 7, 11, 8
-abbrev pub planOrder : Bool → Bool → Bool → Bool → Bool → List (Bool × ℕ)
-planOrder limits lacks bad none large =
+-- the order of refusals: 13 where setup's limits do not hold, 6, 7, 11, 19, 8
+abbrev pub planOrder : Bool → Bool → Bool → Bool → Bool → Bool → List (Bool × ℕ)
+planOrder limits lacks bad none far large =
     (not limits, badSetup)
     ∷ (lacks, noArea4)
     ∷ (bad, badHeader)
     ∷ (none, nothing)
+    ∷ (far, outOfReach)
     ∷ (large, noRoom)
     ∷ []
 
@@ -45,6 +46,7 @@ answerTo p x =
     (withoutArea4 p)
     (not (faultless (x .fault)))
     (noData (p .page) (x .fields .tcda))
+    (not (inReach p (x .fields .last)))
     (not (fitsRoom p (x .fields .last))))
     success
 
@@ -74,7 +76,6 @@ planBy p h = planOf (p .page) (p .area) (p .caps) (p .chunk) (p .room) h
 
 -- ---- for the code
 
--- the answer where setup's is known by its number
-abbrev pub planAnswer : ℕ → Bool → Bool → Bool → ℕ
-planAnswer setup bad none large =
-    firstThat ((not (eqb setup success), setup) ∷ (bad, badHeader) ∷ (none, nothing) ∷ (large, noRoom) ∷ []) success
+-- the answer where setup's and the area's are known by their numbers
+abbrev pub planAnswer : ℕ → Bool → Bool → ℕ → ℕ
+planAnswer setup bad none area = firstThat ((not (eqb setup success), setup) ∷ (bad, badHeader) ∷ (none, nothing) ∷ []) area

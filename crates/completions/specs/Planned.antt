@@ -10,14 +10,14 @@ use lib.Dec.{eqb}
 use borrow.Author.Tests.{ne-eqb, not-true, not-false}
 use Rattle.choices.specs.Choice.{pick, pick-cases, firstThat}
 use Rattle.choices.specs.Tests.{holds}
-use Rattle.answers.specs.Answers.{success, noArea4, badHeader, noRoom, nothing, badSetup}
+use Rattle.answers.specs.Answers.{success, noArea4, badHeader, noRoom, nothing, badSetup, outOfReach}
 use Rattle.pages.specs.declared.Caps.{Caps}
 use Rattle.header.specs.declared.Fault.{Fault}
 use Rattle.header.specs.declared.Fault.the-variants.{None}
 use Rattle.header.specs.declared.Checked.{Checked}
 use Rattle.header.specs.Header.{faultless, checkOf}
 use Rattle.plans.specs.declared.Plan.{Plan}
-use Rattle.plans.specs.Plans.{planTests, withoutArea4, setupAnswer, fitsRoom, areaLast, chunksFrom, chunksOf}
+use Rattle.plans.specs.Plans.{planTests, withoutArea4, setupAnswer, fitsRoom, inReach, areaAnswer, areaLast, chunkOf, chunksFrom, chunksOf}
 use Rattle.completions.specs.declared.Planned.{Planned}
 use Rattle.completions.specs.Plan.{planOrder, leastPlan, noData, answerTo, faultTold, refusedPlan, plannedBy, planOf, planAnswer}
 
@@ -37,43 +37,47 @@ chunks-of-some c b n m =
 -- ---- the order
 
 -- what holds of each answer of the order holds of a plan's
-pub by-order : (P : ℕ → Type 0) (limits lacks bad none large : Bool) → P badSetup → P noArea4 → (bad ≡ true → P badHeader) → P nothing → P noRoom
-    → (bad ≡ false → P success) → P (firstThat (planOrder limits lacks bad none large) success)
-by-order P false lacks bad none large p13 p6 p7 p11 p8 p0 = p13
-by-order P true true bad none large p13 p6 p7 p11 p8 p0 = p6
-by-order P true false true none large p13 p6 p7 p11 p8 p0 = p7 refl
-by-order P true false false true large p13 p6 p7 p11 p8 p0 = p11
-by-order P true false false false true p13 p6 p7 p11 p8 p0 = p8
-by-order P true false false false false p13 p6 p7 p11 p8 p0 = p0 refl
+pub by-order : (P : ℕ → Type 0) (limits lacks bad none far large : Bool) → P badSetup → P noArea4 → (bad ≡ true → P badHeader) → P nothing → P outOfReach
+    → P noRoom → (bad ≡ false → P success) → P (firstThat (planOrder limits lacks bad none far large) success)
+by-order P false lacks bad none far large p13 p6 p7 p11 p19 p8 p0 = p13
+by-order P true true bad none far large p13 p6 p7 p11 p19 p8 p0 = p6
+by-order P true false true none far large p13 p6 p7 p11 p19 p8 p0 = p7 refl
+by-order P true false false true far large p13 p6 p7 p11 p19 p8 p0 = p11
+by-order P true false false false true large p13 p6 p7 p11 p19 p8 p0 = p19
+by-order P true false false false false true p13 p6 p7 p11 p19 p8 p0 = p8
+by-order P true false false false false false p13 p6 p7 p11 p19 p8 p0 = p0 refl
 
--- the same by setup's number
-number-is : (limits lacks bad none large : Bool)
-    → planAnswer (firstThat ((not limits, badSetup) ∷ (lacks, noArea4) ∷ []) success) bad none large ≡ firstThat (planOrder limits lacks bad none large) success
-number-is false lacks bad none large = refl
-number-is true true bad none large = refl
-number-is true false bad none large = refl
+-- the same by setup's number and the area's
+number-is : (limits lacks bad none far large : Bool)
+    → planAnswer (firstThat ((not limits, badSetup) ∷ (lacks, noArea4) ∷ []) success) bad none (firstThat ((far, outOfReach) ∷ (large, noRoom) ∷ []) success)
+    ≡ firstThat (planOrder limits lacks bad none far large) success
+number-is false lacks bad none far large = refl
+number-is true true bad none far large = refl
+number-is true false bad none far large = refl
 
 -- ---- what the code's calls come to
 
-module _ (page area : ℕ) (caps : Caps) (chunk room : ℕ) (h : List ℕ) {x : Checked} {setup answer : ℕ} {good fits : Bool}
+module _ (page area : ℕ) (caps : Caps) (chunk room : ℕ) (h : List ℕ) {x : Checked} {setup area-says answer : ℕ} {good : Bool}
     (ex : x ≡ checkOf page (caps .da4s) h)
     (es : setup ≡ setupAnswer (leastPlan page area caps chunk room))
     (eg : good ≡ faultless (x .fault))
-    (ef : fits ≡ fitsRoom (leastPlan page area caps chunk room) (x .fields .last))
-    (ea : answer ≡ planAnswer setup (not good) (noData page (x .fields .tcda)) (not fits)) where
+    (ef : area-says ≡ areaAnswer (leastPlan page area caps chunk room) (x .fields .last))
+    (ea : answer ≡ planAnswer setup (not good) (noData page (x .fields .tcda)) area-says) where
   answer-is : answer ≡ answerTo (leastPlan page area caps chunk room) (checkOf page (caps .da4s) h)
-  unfolding answerTo setupAnswer
+  unfolding answerTo setupAnswer areaAnswer
   answer-is =
       let p = leastPlan page area caps chunk room in
       let y = checkOf page (caps .da4s) h in
       ea
       ∙ rw (es, eg, ef, ex)
-      (number-is (holds (planTests p)) (withoutArea4 p) (not (faultless (y .fault))) (noData page (y .fields .tcda)) (not (fitsRoom p (y .fields .last))))
+      (number-is (holds (planTests p)) (withoutArea4 p) (not (faultless (y .fault))) (noData page (y .fields .tcda)) (not (inReach p (y .fields .last)))
+      (not (fitsRoom p (y .fields .last))))
 
-  pub plan-good : {b n : ℕ} → answer ≡ success → b ≡ areaLast (leastPlan page area caps chunk room) (x .fields .last) → n ≡ chunksFrom chunk 1 b
+  pub plan-good : {c b n : ℕ} → answer ≡ success → c ≡ chunkOf (leastPlan page area caps chunk room)
+      → b ≡ areaLast (leastPlan page area caps chunk room) (x .fields .last) → n ≡ chunksFrom c 1 b
       → record { answer = answer; fault = x .fault; fields = x .fields; chunks = n } ≡ planOf page area caps chunk room h
   unfolding planOf plannedBy
-  plan-good {b = b} {n = n} ok eb en = rw (← answer-is, ok, en, eb, ex)
+  plan-good ok ec eb en = rw (← answer-is, ok, en, ec, eb, ex)
 
   pub plan-refused : {told : Fault} {r : Planned} → (answer ≡ success → ⊥) → told ≡ pick (eqb answer badHeader) (x .fault) None → r ≡ refusedPlan answer told
       → r ≡ planOf page area caps chunk room h
@@ -106,21 +110,23 @@ module _ (page area : ℕ) (caps : Caps) (chunk room : ℕ) (h : List ℕ) where
   planned-refused n e z = ap (plannedBy p x) (sym planned-answer ∙ e) ∙ rw (ne-eqb n success z)
 
   -- what holds of each answer holds of a plan's
-  pub by-answer : (P : ℕ → Type 0) → P badSetup → P noArea4 → (faultless (x .fault) ≡ false → P badHeader) → P nothing → P noRoom
+  pub by-answer : (P : ℕ → Type 0) → P badSetup → P noArea4 → (faultless (x .fault) ≡ false → P badHeader) → P nothing → P outOfReach → P noRoom
       → (faultless (x .fault) ≡ true → P success) → P (planOf page area caps chunk room h .answer)
   unfolding answerTo
-  by-answer P p13 p6 p7 p11 p8 p0 =
+  by-answer P p13 p6 p7 p11 p19 p8 p0 =
       rw planned-answer
-      (by-order P (holds (planTests p)) (withoutArea4 p) (not (faultless (x .fault))) (noData page (x .fields .tcda)) (not (fitsRoom p (x .fields .last)))
-      p13 p6 (λ e. p7 (not-true _ e)) p11 p8 (λ e. p0 (not-false _ e)))
+      (by-order P (holds (planTests p)) (withoutArea4 p) (not (faultless (x .fault))) (noData page (x .fields .tcda)) (not (inReach p (x .fields .last)))
+      (not (fitsRoom p (x .fields .last))) p13 p6 (λ e. p7 (not-true _ e)) p11 p19 p8 (λ e. p0 (not-false _ e)))
 
   -- 7 is for a bad header alone, and 0 for none
   pub planned-bad-only : planOf page area caps chunk room h .answer ≡ badHeader → faultless (x .fault) ≡ false
   planned-bad-only =
       by-answer (λ (n : ℕ). n ≡ badHeader → faultless (x .fault) ≡ false)
-      (λ e. absurd (omega arith)) (λ e. absurd (omega arith)) (λ g e. g) (λ e. absurd (omega arith)) (λ e. absurd (omega arith)) (λ g e. absurd (omega arith))
+      (λ e. absurd (omega arith)) (λ e. absurd (omega arith)) (λ g e. g) (λ e. absurd (omega arith)) (λ e. absurd (omega arith)) (λ e. absurd (omega arith))
+      (λ g e. absurd (omega arith))
 
   pub planned-good-only : planOf page area caps chunk room h .answer ≡ success → faultless (x .fault) ≡ true
   planned-good-only =
       by-answer (λ (n : ℕ). n ≡ success → faultless (x .fault) ≡ true)
-      (λ e. absurd (omega arith)) (λ e. absurd (omega arith)) (λ g e. absurd (omega arith)) (λ e. absurd (omega arith)) (λ e. absurd (omega arith)) (λ g e. g)
+      (λ e. absurd (omega arith)) (λ e. absurd (omega arith)) (λ g e. absurd (omega arith)) (λ e. absurd (omega arith)) (λ e. absurd (omega arith))
+      (λ e. absurd (omega arith)) (λ g e. g)

@@ -175,12 +175,11 @@ fn chunks_of(c: u32, b: u32) -> u32
     (b - 1) / c + 1
 }
 
-// The first that speaks against a plan: setup's answer, a bad header, an 08h header that shows no data, an area larger than the copy.
-fn plan_answer(setup: u8, bad: bool, none: bool, large: bool) -> u8
-    ensures { λ r. ⌜ r ≡ planAnswer setup bad none large ⌝ }
+// The first that speaks against a plan: setup's answer, a bad header, an 08h header that shows no data, what speaks against the area.
+fn plan_answer(setup: u8, bad: bool, none: bool, area: u8) -> u8
+    ensures { λ r. ⌜ r ≡ planAnswer setup bad none area ⌝ }
 {
-    let room = choices::pick_u8(large, answers::NO_ROOM, answers::SUCCESS);
-    let some = choices::pick_u8(none, answers::NOTHING, room);
+    let some = choices::pick_u8(none, answers::NOTHING, area);
     let good = choices::pick_u8(bad, answers::BAD_HEADER, some);
     choices::pick_u8(setup != answers::SUCCESS, setup, good)
 }
@@ -203,8 +202,8 @@ fn refused_plan(answer: u8, fault: Fault) -> Planned
     }
 }
 
-// Plans a collection of an area of a page, c blocks a command, into a copy of so many bytes, from the page's header: 13 or 6 as setup would answer, 7, 11
-// or 8, or what the header says and the number of chunks.
+// Plans a collection of an area of a page, c blocks a command, into a copy of so many bytes, from the page's header: 13 or 6 as setup would answer, 7, 11,
+// 19 or 8, or what the header says and the number of chunks.
 pub fn plan(page: u8, area: u8, caps: Caps, chunk: u32, room: usize, h: &[u8]) -> Planned
     ensures { λ r. ⌜ r ≡ planOf page area caps chunk room (now (h .entry)) ⌝ }
 {
@@ -225,14 +224,14 @@ pub fn plan(page: u8, area: u8, caps: Caps, chunk: u32, room: usize, h: &[u8]) -
         plans::setup_answer(p),
         !header::faultless(fault),
         (page == pages::CONTROLLER) & (fields.tcda == 0),
-        !plans::fits_room(p, last),
+        plans::area_answer(p, last),
     );
     if answer == answers::SUCCESS {
         return Planned {
             answer,
             fault,
             fields,
-            chunks: chunks_of(chunk, plans::area_last(p, last)),
+            chunks: chunks_of(plans::chunk_of(p), plans::area_last(p, last)),
         };
     }
     refused_plan(answer, told(answer == answers::BAD_HEADER, fault))

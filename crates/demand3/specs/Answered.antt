@@ -9,7 +9,7 @@ use lib.ListN.{length, take, drop}
 use lib.Dec.{leb, eqb}
 use borrow.Author.Tests.{eq-eqb, leb-true, leb-false, le-leb, lt-leb}
 use Rattle.choices.specs.Choice.{pick}
-use Rattle.choices.specs.Tests.{holds, by-test, each, clash}
+use Rattle.choices.specs.Tests.{holds, by-test, each}
 use Rattle.answers.specs.Answers.{success, invalidField}
 use Rattle.pages.specs.declared.Caps.{Caps}
 use Rattle.pages.specs.Pages.{hostPage, controllerPage, telemetryPage, block, lastOf, topOf}
@@ -33,30 +33,40 @@ use Rattle.controller.specs.Laws.{Agrees, create-typed, asked, verdict, command
 -- what a collection asks of a controller at setup, and what its own commands are lent
 pub record Ready (w : World) (bytes : ℕ) (buf : List ℕ) : Type 0 where
   pub agrees : Agrees w
-  pub extended : w .own .caps .extended ≡ true
   pub telemetry : w .own .caps .telemetry ≡ true
   pub room : bytes ≤ length buf
+
+-- a command that a controller without extended data takes: it has no offset, and at most 32 blocks
+abbrev pub Allowed : Bool → ℕ → ℕ → Type 0
+Allowed extended offset blocks = extended ≡ false → (offset ≡ 0) × (blocks ≤ 32)
+
+-- a header is one
+pub header-allowed : (extended : Bool) → Allowed extended 0 1
+header-allowed extended o = (refl, omega arith)
 
 -- the words of a command
 abbrev pub sends : ℕ → Bool → ℕ → Bool → ℕ → ℕ → Words
 sends page create mcda rae offset blocks = builtOf page create mcda rae offset blocks .words
 
 -- which are read to what they mean
-pub asked-is : (w : World) (page : ℕ) (create : Bool) (mcda : ℕ) (rae : Bool) (offset blocks : ℕ) → w .own .caps .extended ≡ true
+pub asked-is : (w : World) (page : ℕ) (create : Bool) (mcda : ℕ) (rae : Bool) (offset blocks : ℕ) → Allowed (w .own .caps .extended) offset blocks
     → taken page create mcda offset blocks ≡ true
     → asked w (sends page create mcda rae offset blocks) ≡ meant page create mcda rae offset blocks
-asked-is w page create mcda rae offset blocks e t =
-    rw e (built-back true page create mcda rae offset blocks t (λ n. clash refl n) .1)
+asked-is w page create mcda rae offset blocks a t = built-back (w .own .caps .extended) page create mcda rae offset blocks t (λ o. a o .1) .1
 
 -- and have no invalid field
-pub valid : (caps : Caps) (page : ℕ) (create : Bool) (mcda : ℕ) (rae : Bool) (offset blocks : ℕ) → caps .extended ≡ true → mcda ≤ 4
+pub valid : (caps : Caps) (page : ℕ) (create : Bool) (mcda : ℕ) (rae : Bool) (offset blocks : ℕ) → Allowed (caps .extended) offset blocks → mcda ≤ 4
     → fieldBad caps (meant page create mcda rae offset blocks) ≡ false
 unfolding fieldBad
-valid caps page create mcda rae offset blocks e m =
+valid caps page create mcda rae offset blocks a m =
     let whole : (block * blocks) % block ≡ 0 = omega arith in
     let placed : (block * offset) % block ≡ 0 = omega arith in
-    rw (eq-eqb _ 0 whole, e, eq-eqb _ 0 placed, lt-leb 5 mcda (omega arith)) (none create (caps .mcdas))
+    rw (eq-eqb _ 0 whole, from-none (caps .extended) (block * offset) (λ o. omega (arith, a o .0)), eq-eqb _ 0 placed, lt-leb 5 mcda (omega arith)) (none create (caps .mcdas))
   where
+    from-none : (x : Bool) (n : ℕ) → (x ≡ false → n ≡ 0) → not x && not (eqb n 0) ≡ false
+    from-none true n h = refl
+    from-none false n h = ap not (eq-eqb n 0 (h refl))
+
     none : (s t : Bool) → s && t && false ≡ false
     none true true = refl
     none true false = refl
@@ -86,12 +96,12 @@ readDone w page rae offset blocks buf =
 
 -- Served where the offset is within the page's size, refused with 1 where it is not.
 pub own-read : (w : World) (candidate : Candidate) (page : ℕ) (rae : Bool) (offset blocks : ℕ) (buf : List ℕ)
-    → Ready w (block * blocks) buf → taken page false 0 offset blocks ≡ true
+    → Ready w (block * blocks) buf → Allowed (w .own .caps .extended) offset blocks → taken page false 0 offset blocks ≡ true
     → commandOf w candidate (sends page false 0 rae offset blocks) buf
     ≡ pick (leb (block * offset) (sizeFor page (w .own))) (readDone w page rae offset blocks buf)
     (outcome invalidField 0 w buf)
 unfolding sentOf before
-own-read w candidate page rae offset blocks buf k t =
+own-read w candidate page rae offset blocks buf k a t =
     by-test (leb (block * offset) (sizeFor page (w .own)))
     (λ h.
     command-done w candidate words buf (answer ∙ accepts (w .own) c (candidate .last) lent fair (rw (last-read w page rae offset blocks (candidate .last)) (leb-true _ _ h)))
@@ -112,7 +122,7 @@ own-read w candidate page rae offset blocks buf k t =
     lent = lentBy w candidate buf
 
     e : asked w words ≡ c
-    e = asked-is w page false 0 rae offset blocks (k .extended) t
+    e = asked-is w page false 0 rae offset blocks a t
 
     answer : verdict w candidate words buf ≡ commandAnswer (w .own) c (candidate .last) lent
     answer = ap (λ (d : Command). commandAnswer (w .own) d (candidate .last) lent) e
@@ -122,7 +132,7 @@ own-read w candidate page rae offset blocks buf k t =
       agrees = k .agrees;
       served = page-taken page false 0 offset blocks t;
       telemetry = k .telemetry;
-      valid = valid (w .own .caps) page false 0 rae offset blocks (k .extended) (omega arith);
+      valid = valid (w .own .caps) page false 0 rae offset blocks a (omega arith);
       candidate = refl;
       room = k .room;
     }
@@ -152,7 +162,7 @@ pub own-header : (w : World) (candidate : Candidate) (page : ℕ) (rae : Bool) (
     → commandOf w candidate (sends page false 0 rae 0 1) buf
     ≡ outcome success 0 (afterwards w (meant page false 0 rae 0 1)) (headerOf (fieldsFor page (w .own)) ++ drop block buf)
 own-header w candidate page rae buf k z p =
-    own-read w candidate page rae 0 1 buf k (header-taken page p)
+    own-read w candidate page rae 0 1 buf k (header-allowed (w .own .caps .extended)) (header-taken page p)
     ∙ rw (le-leb 0 (sizeFor page (w .own)) (omega arith))
     (ap (λ (l : List ℕ). outcome success 0 (afterwards w (meant page false 0 rae 0 1)) (l ++ drop block buf))
     (window-of-header w page (header-long page w (z .sized))))
@@ -183,14 +193,14 @@ own-create w candidate mcda buf k y m f =
     c = meant hostPage true mcda true 0 1
 
     e : asked w words ≡ c
-    e = asked-is w hostPage true mcda true 0 1 (k .extended) (create-taken mcda m)
+    e = asked-is w hostPage true mcda true 0 1 (header-allowed (w .own .caps .extended)) (create-taken mcda m)
 
     fair : Fair (w .own) c (candidate .last) (lentBy w candidate buf)
     fair = record {
       agrees = k .agrees;
       served = refl;
       telemetry = k .telemetry;
-      valid = valid (w .own .caps) hostPage true mcda true 0 1 (k .extended) m;
+      valid = valid (w .own .caps) hostPage true mcda true 0 1 (header-allowed (w .own .caps .extended)) m;
       candidate = ap not f;
       room = k .room;
     }

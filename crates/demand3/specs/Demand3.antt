@@ -10,13 +10,13 @@ use lib.Dec.{ltb, eqb}
 use borrow.Author.Tests.{eqb-true}
 use Rattle.choices.specs.Tests.{and-left, and-right}
 use Rattle.copies.specs.Parts.{zeros}
-use Rattle.answers.specs.Answers.{success, noRoom, withdrawn, nothing}
+use Rattle.answers.specs.Answers.{success, noRoom, withdrawn, nothing, outOfReach}
 use Rattle.pages.specs.Pages.{controllerPage, block, most4}
 use Rattle.records.specs.Records.{controllerFields, fieldsFor}
 use Rattle.records.specs.Back.{Typed}
 use Rattle.plans.specs.declared.Plan.{Plan}
 use Rattle.plans.specs.declared.Phase.the-variants.{First}
-use Rattle.plans.specs.Plans.{setupAnswer, areaLast, wordsBy}
+use Rattle.plans.specs.Plans.{setupAnswer, areaLast, reach, wordsBy}
 use Rattle.completions.specs.Completions.{showsNone}
 use Rattle.judgement.specs.Endings.{numberOf, newerOf}
 use Rattle.collection.specs.declared.Finish.{Finish}
@@ -26,7 +26,7 @@ use Rattle.controller.specs.Controller.{World, lentBy}
 use Rattle.controller.specs.Laws.{asked, command-answer}
 use Rattle.runs.specs.Run.{mostChunks}
 use Rattle.sources.specs.Source.{Collector, ours, Turn, Stand, forLent, collected}
-use Rattle.sources.specs.Promise.{Told, succeeded, lacked, withdrew, empty, noticed, mostCommands, Finished}
+use Rattle.sources.specs.Promise.{Told, succeeded, lacked, unreached, withdrew, empty, noticed, mostCommands, Finished}
 use Rattle.sources.specs.Demand.{demand, first-fair}
 use Rattle.sources.specs.Few.{Among, among, noticed-few}
 use Rattle.demand3.specs.Bench.{Loan, ownOf, controllerSource}
@@ -61,8 +61,15 @@ module _ (c : Collector) (p : Plan) (copy : List ℕ) (w : World) (first : Loan)
   pub data TrueEnding (newer : Bool) (e : Finish) (v : World) : Type 0 where
     -- 0: the copy is the wanted area of v and then zeros
     succeeded-by : numberOf (e .ending) ≡ success → final .copy ≡ wantedArea p v ++ zeros (p .room - length (wantedArea p v)) → newerOf (e .ending) ≡ newer → TrueEnding newer e v
-    -- 8: the wanted area of v is larger than the copy, which is zeros
-    room-short : numberOf (e .ending) ≡ noRoom → final .copy ≡ zeros (p .room) → p .room < block * areaLast p (fieldsFor (p .page) (v .own) .last) → TrueEnding newer e v
+    -- 8: the wanted area of v, which is in reach, is larger than the copy, which is zeros
+    room-short : numberOf (e .ending) ≡ noRoom → final .copy ≡ zeros (p .room)
+        → (p .caps .extended ≡ false → areaLast p (fieldsFor (p .page) (v .own) .last) ≤ reach)
+        → p .room < block * areaLast p (fieldsFor (p .page) (v .own) .last)
+        → TrueEnding newer e v
+    -- 19: there is no extended data, and the wanted area of v is past block 31, the last in reach; the copy is zeros
+    past-reach : numberOf (e .ending) ≡ outOfReach → final .copy ≡ zeros (p .room)
+        → p .caps .extended ≡ false → reach < areaLast p (fieldsFor (p .page) (v .own) .last)
+        → TrueEnding newer e v
     -- 10: the page is 08h, and its TCDA went to 0 after the first header
     gone : numberOf (e .ending) ≡ withdrawn → final .copy ≡ zeros (p .room) → p .page ≡ controllerPage → v .own .controller .tcda ≡ 0 → 2 ≤ length (final .sent) → TrueEnding newer e v
     -- 11: the page is 08h, and its TCDA was 0 at the first header
@@ -76,12 +83,15 @@ module _ (c : Collector) (p : Plan) (copy : List ℕ) (w : World) (first : Loan)
     -- house limit
     pub bounded : final .collection .count ≤ mostCommands p k (mostChunks p (final .headers))
     pub limited : final .collection .count ≤ mostCommands p k most4
+    -- without extended data C is 1 at most
+    pub once : p .caps .extended ≡ false → final .collection .count ≤ mostCommands p k 1
     -- and so many completions end the run
     pub ends : mostCommands p k (mostChunks p (final .headers)) ≤ 1 + length ts → Finished (controllerSource (p .page)) final
     pub ends-limited : mostCommands p k most4 ≤ 1 + length ts → Finished (controllerSource (p .page)) final
+    pub ends-once : p .caps .extended ≡ false → mostCommands p k 1 ≤ 1 + length ts → Finished (controllerSource (p .page)) final
     -- never 13, 14 or 15
     pub never : (n : ℕ) → final .said ≡ Refuse n → ⊥
-    -- every ending is one of the four, and true
+    -- every ending is one of the five, and true
     pub ended : (e : Finish) → final .said ≡ Ends e → TrueEnding newer e (final .checked)
 
 -- ---- the theorems, of our collector
@@ -101,7 +111,8 @@ module _ (p : Plan) (copy : List ℕ) (w : World) (first : Loan) (ts : List (Tur
   told : (e : setupAnswer p ≡ success) (x : Finish) → Told (controllerSource (p .page)) p (controllerKeeps p e) x end → TrueEnding ours p copy w first ts (noticed (end .counts .captures)) x (end .checked)
   unfolding controllerKeeps showsFor
   told e x (succeeded a c l) = succeeded-by (ap numberOf a) c (ap newerOf a)
-  told e x (lacked a c r) = room-short (ap numberOf a) c r
+  told e x (lacked a c n r) = room-short (ap numberOf a) c n r
+  told e x (unreached a c o r) = past-reach (ap numberOf a) c o r
   told e x (withdrew a c n t) = let q = none-shown n in gone (ap numberOf a) c (q .0) (q .1) t
   told e x (empty a c n t) = let q = none-shown n in never-there (ap numberOf a) c (q .0) (q .1) t
 
@@ -132,8 +143,10 @@ module _ (p : Plan) (copy : List ℕ) (w : World) (first : Loan) (ts : List (Tur
         says = r .says;
         bounded = r .bounded;
         limited = r .limited;
+        once = r .once;
         ends = λ h. d .1 _ (r .bounded) h;
         ends-limited = λ h. d .1 _ (r .limited) h;
+        ends-once = λ o h. d .1 _ (r .once o) h;
         never = r .never;
         ended = λ x q. told (a .taken) x (r .told x q);
       }

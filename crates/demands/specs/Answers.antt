@@ -9,7 +9,7 @@ use lib.ListN.{length, getD}
 use lib.Dec.{ltb, eqb}
 use Rattle.choices.specs.Choice.{pick-cases, firstThat}
 use Rattle.choices.specs.Tests.{holds, by-test, same-or-not, and-left}
-use Rattle.answers.specs.Answers.{success, invalidField, invalidLogPage, shortBuffer, disagree, brokenCandidate, noArea4, badHeader, noRoom, attemptsUsedUp, withdrawn, nothing, brokeItsWord, badSetup, alreadyEnded, doesNotFit}
+use Rattle.answers.specs.Answers.{success, invalidField, invalidLogPage, shortBuffer, disagree, brokenCandidate, noArea4, badHeader, noRoom, attemptsUsedUp, withdrawn, nothing, brokeItsWord, badSetup, alreadyEnded, doesNotFit, outOfReach}
 use Rattle.words.specs.declared.Command.{Command}
 use Rattle.words.specs.declared.Words.{Words}
 use Rattle.pages.specs.declared.Caps.{Caps}
@@ -27,7 +27,7 @@ use Rattle.completions.specs.declared.Seen.{Seen}
 use Rattle.completions.specs.Plan.{planOf}
 use Rattle.completions.specs.Planned.{by-answer}
 use Rattle.judgement.specs.declared.Ending.{Ending}
-use Rattle.judgement.specs.declared.Ending.the-variants.{Success, BadHeader, NoRoom, UsedUp, Withdrawn, Nothing, BrokeItsWord}
+use Rattle.judgement.specs.declared.Ending.the-variants.{Success, BadHeader, OutOfReach, NoRoom, UsedUp, Withdrawn, Nothing, BrokeItsWord}
 use Rattle.judgement.specs.declared.Move.{Move}
 use Rattle.judgement.specs.declared.Move.the-variants.{End, Open, More, Skip, Acknowledge}
 use Rattle.judgement.specs.Endings.{numberOf}
@@ -103,10 +103,10 @@ drop-gives w = by-test (agreesWith (w .own) (length (w .host)) (length (w .contr
 
 -- a plan from a header
 pub planned-gives : (page area : ℕ) (caps : Caps) (chunk room : ℕ) (h : List ℕ)
-    → among (success ∷ noArea4 ∷ badHeader ∷ noRoom ∷ nothing ∷ badSetup ∷ []) (planOf page area caps chunk room h .answer) ≡ true
+    → among (success ∷ noArea4 ∷ badHeader ∷ noRoom ∷ nothing ∷ badSetup ∷ outOfReach ∷ []) (planOf page area caps chunk room h .answer) ≡ true
 planned-gives page area caps chunk room h =
-    by-answer page area caps chunk room h (λ (n : ℕ). among (success ∷ noArea4 ∷ badHeader ∷ noRoom ∷ nothing ∷ badSetup ∷ []) n ≡ true)
-    refl refl (λ e. refl) refl refl (λ e. refl)
+    by-answer page area caps chunk room h (λ (n : ℕ). among (success ∷ noArea4 ∷ badHeader ∷ noRoom ∷ nothing ∷ badSetup ∷ outOfReach ∷ []) n ≡ true)
+    refl refl (λ e. refl) refl refl refl (λ e. refl)
 
 -- the builder
 pub builder-gives : (page : ℕ) (create : Bool) (mcda : ℕ) (rae : Bool) (offset blocks : ℕ)
@@ -132,9 +132,10 @@ setup-gives p =
     (λ e. rw (setup-refused p e) (refused-gives p))
 
 -- an ending
-pub ending-gives : (e : Ending) → among (success ∷ badHeader ∷ noRoom ∷ attemptsUsedUp ∷ withdrawn ∷ nothing ∷ brokeItsWord ∷ []) (numberOf e) ≡ true
+pub ending-gives : (e : Ending) → among (success ∷ badHeader ∷ noRoom ∷ attemptsUsedUp ∷ withdrawn ∷ nothing ∷ brokeItsWord ∷ outOfReach ∷ []) (numberOf e) ≡ true
 ending-gives (Success unread) = refl
 ending-gives (BadHeader fault) = refl
+ending-gives OutOfReach = refl
 ending-gives NoRoom = refl
 ending-gives UsedUp = refl
 ending-gives Withdrawn = refl
@@ -143,11 +144,12 @@ ending-gives BrokeItsWord = refl
 
 -- those of a step: an ending's and its refusals
 abbrev pub stepAnswers : List ℕ
-stepAnswers = success ∷ badHeader ∷ noRoom ∷ attemptsUsedUp ∷ withdrawn ∷ nothing ∷ brokeItsWord ∷ badSetup ∷ alreadyEnded ∷ doesNotFit ∷ []
+stepAnswers = success ∷ badHeader ∷ noRoom ∷ attemptsUsedUp ∷ withdrawn ∷ nothing ∷ brokeItsWord ∷ badSetup ∷ alreadyEnded ∷ doesNotFit ∷ outOfReach ∷ []
 
 ended-gives : (e : Ending) → among stepAnswers (numberOf e) ≡ true
 ended-gives (Success unread) = refl
 ended-gives (BadHeader fault) = refl
+ended-gives OutOfReach = refl
 ended-gives NoRoom = refl
 ended-gives UsedUp = refl
 ended-gives Withdrawn = refl

@@ -42,7 +42,7 @@ tells : (s : Collection) (ok : Bool) (h : Seen) → Tells s ok h (makes s h (mov
 unfolding makes
 tells s ok h = move-cases (λ (m : Move). Tells s ok h (makes s h m)) s ok h (record {
   fail = λ e l t. t;
-  large = λ f l. says-nothing refl refl;
+  short = λ e l t f u. t;
   first = λ f r. says-nothing refl refl;
   again = λ f l r. says-nothing refl refl;
   more = λ at f y. says-nothing refl refl;

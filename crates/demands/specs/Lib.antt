@@ -3,3 +3,4 @@ pub mod Headers
 pub mod Faults
 pub mod Fields
 pub mod Plans
+pub mod Old

@@ -1,4 +1,4 @@
--- Document 02, Q-4, said directly: the plan's answer is the first of its order, and a collection answers its first header just as the plan does and goes on from what the plan gives.
+-- Document 02, Q-4 and Q-10, said directly: the plan's answer is the first of its order, and a collection answers its first header just as the plan does and goes on from what the plan gives.
 -- Assumes nothing.
 use Prim.Native.Nat.{ℕ}
 use mathlib.Core.Path.{_≡_, refl, sym, ap, _∙_}
@@ -9,13 +9,14 @@ use lib.ListN.{length}
 use lib.Dec.{eqb}
 use Rattle.choices.specs.Choice.{First, first-that}
 use Rattle.choices.specs.Tests.{holds}
-use Rattle.answers.specs.Answers.{success, noArea4, badHeader, noRoom, nothing, badSetup}
+use Rattle.answers.specs.Answers.{success, noArea4, badHeader, noRoom, nothing, badSetup, outOfReach}
 use Rattle.pages.specs.declared.Caps.{Caps}
 use Rattle.header.specs.declared.Fault.the-variants.{None}
 use Rattle.header.specs.Header.{faultless, checkOf}
 use Rattle.header.specs.Faults.{faultless-none}
 use Rattle.plans.specs.declared.Phase.the-variants.{First as FirstHeader}
-use Rattle.plans.specs.Plans.{planTests, withoutArea4, setupAnswer, fitsRoom}
+use Rattle.plans.specs.Plans.{planTests, withoutArea4, setupAnswer, fitsRoom, inReach}
+use Rattle.plans.specs.Limits.{short-is}
 use Rattle.completions.specs.declared.Planned.{Planned}
 use Rattle.completions.specs.declared.Seen.{Seen}
 use Rattle.completions.specs.Plan.{leastPlan, noData, answerTo, planOf, planBy}
@@ -25,7 +26,7 @@ use Rattle.completions.specs.Looked.{by-plan, success-opens}
 use Rattle.collection.specs.declared.Collection.{Collection}
 use Rattle.collection.specs.Collection.{refusalOf, stepOf, answerOf, faultSaid}
 use Rattle.collection.specs.Laws.{state-valid, not-refused}
-use Rattle.collection.specs.Steps.{first-bad, first-none, first-large, first-opens}
+use Rattle.collection.specs.Steps.{first-bad, first-none, first-short, first-opens}
 
 -- ---- the order
 
@@ -36,6 +37,7 @@ pub plan-first : (page area : ℕ) (caps : Caps) (chunk room : ℕ) (h : List �
     ∷ (withoutArea4 (leastPlan page area caps chunk room), noArea4)
     ∷ (not (faultless (checkOf page (caps .da4s) h .fault)), badHeader)
     ∷ (noData page (checkOf page (caps .da4s) h .fields .tcda), nothing)
+    ∷ (not (inReach (leastPlan page area caps chunk room) (checkOf page (caps .da4s) h .fields .last)), outOfReach)
     ∷ (not (fitsRoom (leastPlan page area caps chunk room) (checkOf page (caps .da4s) h .fields .last)), noRoom)
     ∷ [])
     success
@@ -56,7 +58,11 @@ module _ (s : Collection) (d : List ℕ) (n : ℕ) (r : refusalOf s true (length
       by-plan (s .plan) d plan-is
       (λ g a t. (rw (first-bad s true d n r f refl g, a), rw (first-bad s true d n r f refl g, t)))
       (λ g w a. (rw (first-none s true d n r f refl g w, a), rw (first-none s true d n r f refl g w, silent nothing a (omega arith) refl)))
-      (λ g w l a. (rw (first-large s true d n r f refl g w l, a), rw (first-large s true d n r f refl g w l, silent noRoom a (omega arith) refl)))
+      (λ g w l a.
+      let e = first-short s true d n r f refl g w l in
+      short-is (s .plan) (seenOf (s .plan) d .last) l
+      (λ o b. (rw (e, b, a ∙ b), rw (e, b, silent outOfReach (a ∙ b) (omega arith) refl)))
+      (λ o t b. (rw (e, b, a ∙ b), rw (e, b, silent noRoom (a ∙ b) (omega arith) refl))))
       (λ x.
       let o = x .opens in
       let e : stepOf s true d n ≡ _ = first-opens s true d n r f refl (o .good) (o .some) (o .fits) in

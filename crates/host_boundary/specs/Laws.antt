@@ -10,7 +10,7 @@ use lib.ListN.{length}
 use lib.Dec.{eqb}
 use borrow.Author.Tests.{lt-leb, eq-eqb}
 use Rattle.choices.specs.Choice.{pick-cases}
-use Rattle.choices.specs.Tests.{holds, each, by-test, clash, and-left}
+use Rattle.choices.specs.Tests.{holds, each, by-test, clash}
 use Rattle.answers.specs.Answers.{success, badSetup}
 use Rattle.completions.specs.declared.Seen.{Seen}
 use Rattle.completions.specs.Plan.{leastPlan, answerTo, planOf}
@@ -68,7 +68,7 @@ unfolding setupAnswer capsOf
 damaged-refused page create area caps chunk attempts room h =
     let p = setupPlan page create area caps chunk attempts room in
     by-test (holds (planTests p))
-    (λ t. clash {t = p .caps .extended} (and-left _ _ (each (planTests p) t 5)) (rw (lt-leb caps mostCaps h)))
+    (λ t. clash {t = p .caps .telemetry} (each (planTests p) t 5) (rw (lt-leb caps mostCaps h)))
     (λ f. rw f)
 
 -- and so does a plan
@@ -78,5 +78,5 @@ plan-damaged page area caps chunk room h l =
     let p = leastPlan page area (capsOf caps) chunk room in
     rw (planned-answer page area (capsOf caps) chunk room h)
     (by-test (holds (planTests p))
-    (λ t. clash {t = p .caps .extended} (and-left _ _ (each (planTests p) t 5)) (rw (lt-leb caps mostCaps l)))
+    (λ t. clash {t = p .caps .telemetry} (each (planTests p) t 5) (rw (lt-leb caps mostCaps l)))
     (λ f. rw f))

@@ -1,4 +1,4 @@
--- Document 01, "Host: header check and collection", and document 02, Q-1 and Q-4, on what a completion calls for: first what it tells, test by test, and
+-- Document 01, "Host: header check and collection", and document 02, Q-1, Q-4 and Q-10, on what a completion calls for: first what it tells, test by test, and
 -- then the orders of endings over the tests. h is what is seen of its data, a the attempt.
 -- Assumes nothing.
 use Prim.Native.Nat.{ℕ}
@@ -6,18 +6,18 @@ use mathlib.Core.List.{[], _∷_}
 use mathlib.Core.Bool.{Bool, true, false, not, _&&_}
 use lib.Dec.{leb, eqb}
 use Rattle.choices.specs.Choice.{firstThat}
-use Rattle.answers.specs.Answers.{badHeader, noRoom, nothing}
+use Rattle.answers.specs.Answers.{badHeader, noRoom, nothing, outOfReach}
 use Rattle.pages.specs.Pages.{controllerPage, sameLast}
 use Rattle.header.specs.Header.{faultless}
 use Rattle.plans.specs.declared.Plan.{Plan}
 use Rattle.plans.specs.declared.Phase.{Phase}
 use Rattle.plans.specs.declared.Phase.the-variants.{First, Chunk, Close, Ack, Ended}
-use Rattle.plans.specs.Plans.{fitsRoom}
+use Rattle.plans.specs.Plans.{areaAnswer}
 use Rattle.completions.specs.declared.Seen.{Seen}
 use Rattle.completions.specs.Completions.{showsNone}
 use Rattle.judgement.specs.declared.Attempt.{Attempt}
 use Rattle.judgement.specs.declared.Tests.{Tests}
-use Rattle.judgement.specs.declared.Ending.the-variants.{Success, BadHeader, NoRoom, UsedUp, Withdrawn, Nothing, BrokeItsWord}
+use Rattle.judgement.specs.declared.Ending.the-variants.{Success, BadHeader, OutOfReach, NoRoom, UsedUp, Withdrawn, Nothing, BrokeItsWord}
 use Rattle.judgement.specs.declared.Move.{Move}
 use Rattle.judgement.specs.declared.Move.the-variants.{End, Open, More, Skip, Acknowledge}
 
@@ -38,7 +38,7 @@ testsOf p a ok h = record {
   fault = h .fault;
   bad = not (faultless (h .fault));
   none = showsNone p h;
-  large = not (fitsRoom p (h .last));
+  area = areaAnswer p (h .last);
   same = matches a h;
   newer = newerThan a h;
   used = leb (p .attempts) (a .number);
@@ -47,18 +47,19 @@ testsOf p a ok h = record {
 
 -- ---- what it calls for
 
--- a first header: 12, and then as its plan answers, 7, 11, 8, or else it opens the attempt
+-- a first header: 12, and then as its plan answers, 7, 11, 19, 8, or else it opens the attempt
 unfoldable pub firstOrder : Tests → Move
 firstOrder t =
     firstThat
     ((t .refused, End BrokeItsWord false)
     ∷ (eqb (t .answer) badHeader, End (BadHeader (t .fault)) false)
     ∷ (eqb (t .answer) nothing, End Nothing false)
+    ∷ (eqb (t .answer) outOfReach, End OutOfReach false)
     ∷ (eqb (t .answer) noRoom, End NoRoom false)
     ∷ [])
     (Open false)
 
--- by the match: after a refused chunk 12, or else the copy stands, which is to be acknowledged on 08h and done on 07h; on a mismatch 9, 8, or
+-- by the match: after a refused chunk 12, or else the copy stands, which is to be acknowledged on 08h and done on 07h; on a mismatch 9, 19, 8, or
 -- else the header opens the next attempt
 unfoldable pub matchOrder : Tests → Bool → Move
 matchOrder t after =
@@ -67,7 +68,8 @@ matchOrder t after =
     ∷ (t .same && t .acknowledged, Acknowledge)
     ∷ (t .same, End (Success false) false)
     ∷ (t .used, End UsedUp false)
-    ∷ (t .large, End NoRoom true)
+    ∷ (eqb (t .area) outOfReach, End OutOfReach true)
+    ∷ (eqb (t .area) noRoom, End NoRoom true)
     ∷ [])
     (Open true)
 

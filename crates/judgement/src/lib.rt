@@ -21,6 +21,7 @@ pub struct Attempt {
 pub enum Ending {
     Success(bool),
     BadHeader(Fault),
+    OutOfReach,
     NoRoom,
     UsedUp,
     Withdrawn,
@@ -51,6 +52,7 @@ pub fn number(ending: Ending) -> u8
     match ending {
         Ending::Success(_) => answers::SUCCESS,
         Ending::BadHeader(_) => answers::BAD_HEADER,
+        Ending::OutOfReach => answers::OUT_OF_REACH,
         Ending::NoRoom => answers::NO_ROOM,
         Ending::UsedUp => answers::ATTEMPTS_USED_UP,
         Ending::Withdrawn => answers::WITHDRAWN,
@@ -66,6 +68,7 @@ pub fn newer(ending: Ending) -> bool
     match ending {
         Ending::Success(unread) => unread,
         Ending::BadHeader(_) => false,
+        Ending::OutOfReach => false,
         Ending::NoRoom => false,
         Ending::UsedUp => false,
         Ending::Withdrawn => false,
@@ -81,6 +84,7 @@ pub fn fault(ending: Ending) -> Fault
     match ending {
         Ending::Success(_) => Fault::None,
         Ending::BadHeader(fault) => fault,
+        Ending::OutOfReach => Fault::None,
         Ending::NoRoom => Fault::None,
         Ending::UsedUp => Fault::None,
         Ending::Withdrawn => Fault::None,
@@ -92,7 +96,7 @@ pub fn fault(ending: Ending) -> Fault
 // ---- what a completion calls for
 
 // What a completion tells of an attempt, test by test: it is refused; what the plan from a first header answers; a header's fault, and that it has one; an
-// 08h header shows no data; the area is larger than the copy; the header matches the attempt's, in its generation and all four last blocks; its
+// 08h header shows no data; what speaks against the area; the header matches the attempt's, in its generation and all four last blocks; its
 // generation is another; no attempt is left; the page is one to acknowledge.
 struct Tests {
     refused: bool,
@@ -100,7 +104,7 @@ struct Tests {
     fault: Fault,
     bad: bool,
     none: bool,
-    large: bool,
+    area: u8,
     same: bool,
     newer: bool,
     used: bool,
@@ -121,7 +125,7 @@ fn tests_of(p: Plan, a: Attempt, ok: bool, h: Seen) -> Tests
         fault,
         bad: !header::faultless(fault),
         none: acknowledged & (h.tcda == 0),
-        large: !plans::fits_room(p, last),
+        area: plans::area_answer(p, last),
         same: generation & pages::same_last(last, held),
         newer: !generation,
         used: p.attempts <= a.number,
@@ -129,13 +133,14 @@ fn tests_of(p: Plan, a: Attempt, ok: bool, h: Seen) -> Tests
     }
 }
 
-// 12, and then as its plan answers: 7, 11, 8, or else the header opens the attempt.
+// 12, and then as its plan answers: 7, 11, 19, 8, or else the header opens the attempt.
 fn first_of(t: Tests) -> Move
     ensures { λ r. ⌜ r ≡ firstOrder t ⌝ }
 {
     let fault = t.fault;
     let bad = t.answer == answers::BAD_HEADER;
     let none = t.answer == answers::NOTHING;
+    let far = t.answer == answers::OUT_OF_REACH;
     let large = t.answer == answers::NO_ROOM;
     if t.refused {
         return Move::End(Ending::BrokeItsWord, false);
@@ -146,16 +151,21 @@ fn first_of(t: Tests) -> Move
     if none {
         return Move::End(Ending::Nothing, false);
     }
+    if far {
+        return Move::End(Ending::OutOfReach, false);
+    }
     if large {
         return Move::End(Ending::NoRoom, false);
     }
     Move::Open(false)
 }
 
-// The copy stands, after a refused chunk it cannot; or else the order on a mismatch: 9, 8, or the header opens the next attempt.
+// The copy stands, after a refused chunk it cannot; or else the order on a mismatch: 9, 19, 8, or the header opens the next attempt.
 fn match_of(t: Tests, after: bool) -> Move
     ensures { λ r. ⌜ r ≡ matchOrder t after ⌝ }
 {
+    let far = t.area == answers::OUT_OF_REACH;
+    let large = t.area == answers::NO_ROOM;
     if t.same & after {
         return Move::End(Ending::BrokeItsWord, false);
     }
@@ -168,7 +178,10 @@ fn match_of(t: Tests, after: bool) -> Move
     if t.used {
         return Move::End(Ending::UsedUp, false);
     }
-    if t.large {
+    if far {
+        return Move::End(Ending::OutOfReach, true);
+    }
+    if large {
         return Move::End(Ending::NoRoom, true);
     }
     Move::Open(true)

@@ -1,7 +1,7 @@
 -- The awaited command is never a builder's refusal: under a plan that setup takes, while its chunk lies within the area, its words ask
 -- for just what the phase asks for.
 -- Assumes nothing.
-use Prim.Native.Nat.{ℕ, _≤_}
+use Prim.Native.Nat.{ℕ, _+_, _≤_}
 use mathlib.Core.Path.{_≡_, refl, ap}
 use mathlib.Core.List.{List}
 use mathlib.Core.Bool.{Bool, true, false, not, _&&_, _||_}
@@ -20,7 +20,7 @@ use Rattle.plans.specs.declared.Plan.{Plan}
 use Rattle.plans.specs.declared.Phase.{Phase}
 use Rattle.plans.specs.declared.Phase.the-variants.{First, Chunk, Close, Ack, Ended}
 use Rattle.plans.specs.Phases.{firstBy, judgedBy, ackBy, endedBy, closing-is, by-header}
-use Rattle.plans.specs.Plans.{planTests, setupAnswer, areaLast, fitsRoom, chunkBlocks, mcdaOf, asksFor, builtFor, wordsBy, expectedBy, insideBy, withinBy}
+use Rattle.plans.specs.Plans.{planTests, setupAnswer, areaLast, fits, chunkOf, startOf, leadOf, chunkBlocks, mcdaOf, asksFor, builtFor, wordsBy, expectedBy, insideBy, withinBy}
 use Rattle.plans.specs.Limits.{plan-taken, plan-limits, area-limit, chunk-inside, chunk-most, chunk-some}
 
 -- what each phase asks of the controller
@@ -30,10 +30,12 @@ meantFor page a = meant page (a .create) (a .mcda) (a .rae) (a .offset) (a .bloc
 abbrev pub commandBy : Phase → Plan → List ℕ → Command
 commandBy f p last = meantFor (p .page) (asksFor f p last)
 
--- the builder takes the awaited command, and its words are read back to what the phase asks for
+-- the builder takes the awaited command, and its words are read back to what the phase asks for, with the plan's own extended data, and with all bits of the
+-- length
 pub record Awaits (f : Phase) (p : Plan) (last : List ℕ) : Type 0 where
   pub answer : builtFor (p .page) (asksFor f p last) .answer ≡ success
-  pub reads : readOf true (wordsBy f p last) ≡ commandBy f p last
+  pub reads : readOf (p .caps .extended) (wordsBy f p last) ≡ commandBy f p last
+  pub long : readOf true (wordsBy f p last) ≡ commandBy f p last
 
 -- a header that is judged has a block
 pub header-block : (f : Phase) (p : Plan) (last : List ℕ) → judgedBy f ≡ true → expectedBy f p last ≡ block
@@ -54,6 +56,14 @@ asks-create (Chunk at) p last = refl
 asks-create (Close after) p last = refl
 asks-create Ack p last = refl
 asks-create Ended p last = refl
+
+-- an old run sends no offset
+pub asks-offset : (f : Phase) (p : Plan) (last : List ℕ) → p .caps .extended ≡ false → asksFor f p last .offset ≡ 0
+asks-offset First p last o = refl
+asks-offset (Chunk at) p last o = rw o
+asks-offset (Close after) p last o = refl
+asks-offset Ack p last o = refl
+asks-offset Ended p last o = refl
 
 -- ---- the builder takes what is asked for
 
@@ -81,29 +91,38 @@ header-taken : (p : Plan) → setupAnswer p ≡ success → taken (p .page) fals
 header-taken p e = plain-taken p 0 1 e (omega arith) (omega arith) (omega arith)
 
 -- a chunk that starts within the area is one that the builder takes
-pub chunk-taken : (p : Plan) (last : List ℕ) (at : ℕ) → setupAnswer p ≡ success → fitsRoom p last ≡ true → insideBy (Chunk at) (areaLast p last) ≡ true
-    → taken (p .page) false 0 at (chunkBlocks (p .chunk) at (areaLast p last)) ≡ true
+pub chunk-taken : (p : Plan) (last : List ℕ) (at : ℕ) → setupAnswer p ≡ success → fits p last ≡ true → insideBy (Chunk at) p last ≡ true
+    → taken (p .page) false 0 (startOf p at) (leadOf p + chunkBlocks (chunkOf p) at (areaLast p last)) ≡ true
 chunk-taken p last at e r i =
     let l = plan-limits p e in
     let b = area-limit p last e r in
-    let c = chunk-inside at (areaLast p last) i in
-    let m = chunk-most (p .chunk) at (areaLast p last) in
-    plain-taken p at (chunkBlocks (p .chunk) at (areaLast p last)) e (omega arith) (chunk-some (p .chunk) at (areaLast p last) (l .chunk-low) (c .1)) (omega arith)
+    let c = chunk-inside p last at i in
+    let m = chunk-most (chunkOf p) at (areaLast p last) in
+    let n = chunk-some (chunkOf p) at (areaLast p last) (l .chunk-low) (c .high) in
+    plain-taken p (startOf p at) (leadOf p + chunkBlocks (chunkOf p) at (areaLast p last)) e (omega (arith, c .start, c .high)) (omega arith) (omega (arith, l .chunk-high))
 
 ask-taken : (f : Phase) (p : Plan) (last : List ℕ) → setupAnswer p ≡ success → withinBy f p last ≡ true → endedBy f ≡ false
     → takes (p .page) (asksFor f p last) ≡ true
 unfolding withinBy
 ask-taken First p last e w g = first-taken p e
 ask-taken (Chunk at) p last e w g =
-    chunk-taken p last at e (and-left (fitsRoom p last) (insideBy (Chunk at) (areaLast p last)) w)
-    (and-right (fitsRoom p last) (insideBy (Chunk at) (areaLast p last)) w)
+    chunk-taken p last at e (and-left (fits p last) (insideBy (Chunk at) p last) w) (and-right (fits p last) (insideBy (Chunk at) p last) w)
 ask-taken (Close after) p last e w g = header-taken p e
 ask-taken Ack p last e w g = header-taken p e
 ask-taken Ended p last e w g = clash {t = true} refl g
+
+-- an old run asks for at most 32 blocks, whose length CDW10 alone holds
+pub ask-few : (f : Phase) (p : Plan) (last : List ℕ) → setupAnswer p ≡ success → p .caps .extended ≡ false → asksFor f p last .blocks ≤ 32
+ask-few First p last e o = omega arith
+ask-few (Chunk at) p last e o = omega (arith, plan-limits p e .chunk-old o, chunk-most (chunkOf p) at (areaLast p last))
+ask-few (Close after) p last e o = omega arith
+ask-few Ack p last e o = omega arith
+ask-few Ended p last e o = omega arith
 
 pub awaited-built : (f : Phase) (p : Plan) (last : List ℕ) → setupAnswer p ≡ success → withinBy f p last ≡ true → endedBy f ≡ false → Awaits f p last
 unfolding wordsBy
 awaited-built f p last e w g =
     let a = asksFor f p last in
-    let b = built-back true (p .page) (a .create) (a .mcda) (a .rae) (a .offset) (a .blocks) (ask-taken f p last e w g) (λ z. clash {t = true} refl z) in
-    record { answer = b .0; reads = b .1 }
+    let t = ask-taken f p last e w g in
+    let b = built-back (p .caps .extended) (p .page) (a .create) (a .mcda) (a .rae) (a .offset) (a .blocks) t (ask-few f p last e) in
+    record { answer = b .0; reads = b .1; long = built-back true (p .page) (a .create) (a .mcda) (a .rae) (a .offset) (a .blocks) t (λ z. clash {t = true} refl z) .1 }

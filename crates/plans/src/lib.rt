@@ -8,15 +8,18 @@ use words::Words;
 ghost use mathlib.Core.Path.{_≡_};
 ghost use Prim.Native.Nat.{_+_};
 ghost use Rattle.choices.specs.Tests.{holds};
+ghost use Rattle.plans.specs.declared.Phase.the-variants.{Chunk};
 ghost use Rattle.plans.specs.Phases.{asked, endedBy};
-ghost use Rattle.plans.specs.Plans.{planTests, setupAnswer, areaLast, areaBytes, fitsRoom, chunkBlocks, mcdaOf, asksFor, insideBy, phaseAt, wordsBy, dueBy};
+ghost use Rattle.plans.specs.Plans.{chunkTaken, planTests, setupAnswer, areaLast, areaBytes, fitsRoom, inReach, areaAnswer, chunkOf, leadOf, chunkBlocks, mcdaOf, asksFor, insideBy, phaseAt, wordsBy, dueBy};
 
 // The most attempts of a collection.
 pub const MOST_ATTEMPTS: u32 = 65535;
 // The most bytes of a copy.
 pub const MOST_ROOM: usize = 536870912;
+// The last block that a command without extended data reaches.
+pub const REACH: u32 = 31;
 
-// What setup is asked for: `area` is the wanted area, `chunk` the blocks of a command, `room` the bytes of the copy.
+// What setup is asked for: `area` is the wanted area, `chunk` the blocks of a command, none without extended data, `room` the bytes of the copy.
 pub struct Plan {
     pub page: u8,
     pub create: bool,
@@ -46,11 +49,22 @@ pub struct Ask {
     pub blocks: u32,
 }
 
-// What is awaited: the bytes that a success brings, and whether the area of the attempt's header fits the copy and an awaited chunk starts in
+// What is awaited: the bytes that a success brings, and whether the area of the attempt's header can be collected and an awaited chunk starts in
 // it.
 pub struct Due {
     pub bytes: usize,
     pub within: bool,
+}
+
+// c is one that setup takes: 1 to 8,192 with extended data, 0 without.
+fn chunk_taken(extended: bool, c: u32) -> bool
+    ensures { λ r. ⌜ r ≡ chunkTaken extended c ⌝ }
+{
+    if extended {
+        (1 <= c) & (c <= words::MOST_BLOCKS)
+    } else {
+        c == 0
+    }
 }
 
 fn plan_ok(p: Plan) -> bool
@@ -59,10 +73,10 @@ fn plan_ok(p: Plan) -> bool
     let caps = p.caps;
     ((p.page == pages::HOST) | (p.page == pages::CONTROLLER))
         & ((1 <= p.area) & (p.area <= 4))
-        & ((1 <= p.chunk) & (p.chunk <= words::MOST_BLOCKS))
+        & chunk_taken(caps.extended, p.chunk)
         & ((1 <= p.attempts) & (p.attempts <= MOST_ATTEMPTS))
         & ((p.room <= MOST_ROOM) & (p.room % pages::BLOCK == 0))
-        & (caps.extended & caps.telemetry)
+        & caps.telemetry
         & !(p.create & (p.page == pages::CONTROLLER))
 }
 
@@ -91,10 +105,42 @@ pub fn area_bytes(p: Plan, last: [u32; 4]) -> usize
 }
 
 // The wanted area of a header with these last blocks fits the copy.
-pub fn fits_room(p: Plan, last: [u32; 4]) -> bool
+fn fits_room(p: Plan, last: [u32; 4]) -> bool
     ensures { λ r. ⌜ r ≡ fitsRoom p last ⌝ }
 {
     area_bytes(p, last) <= p.room
+}
+
+// The wanted area of a header with these last blocks is in reach: always with extended data.
+fn in_reach(p: Plan, last: [u32; 4]) -> bool
+    ensures { λ r. ⌜ r ≡ inReach p last ⌝ }
+{
+    let caps = p.caps;
+    caps.extended | (area_last(p, last) <= REACH)
+}
+
+// What speaks against collecting the wanted area of a header with these last blocks: 19, 8, or 0.
+pub fn area_answer(p: Plan, last: [u32; 4]) -> u8
+    ensures { λ r. ⌜ r ≡ areaAnswer p last ⌝ }
+{
+    let room = choices::pick_u8(!fits_room(p, last), answers::NO_ROOM, answers::SUCCESS);
+    choices::pick_u8(!in_reach(p, last), answers::OUT_OF_REACH, room)
+}
+
+// The blocks of a chunk: c, or without extended data all that are in reach.
+pub fn chunk_of(p: Plan) -> u32
+    ensures { λ r. ⌜ r ≡ chunkOf p ⌝ }
+{
+    let caps = p.caps;
+    choices::pick_u32(caps.extended, p.chunk, REACH)
+}
+
+// The blocks that a chunk's command reads before it: without extended data the header.
+pub fn lead_of(p: Plan) -> u32
+    ensures { λ r. ⌜ r ≡ leadOf p ⌝ }
+{
+    let caps = p.caps;
+    choices::pick_u32(caps.extended, 0, 1)
 }
 
 // The blocks of the chunk at a block; none past B.
@@ -131,26 +177,38 @@ fn asking(create: bool, mcda: u8, rae: bool, offset: u32, blocks: u32) -> Ask
     }
 }
 
+// The chunk at a block; without extended data with the header in front of it.
+fn asking_chunk(p: Plan, last: [u32; 4], at: u32) -> Ask
+    ensures { λ r. ⌜ r ≡ asksFor (Chunk at) p last ⌝ }
+{
+    let caps = p.caps;
+    let own = chunk_blocks(chunk_of(p), at, area_last(p, last));
+    if caps.extended {
+        return asking(false, 0, true, at, own);
+    }
+    asking(false, 0, true, 0, 1 + own)
+}
+
 fn asks_for(phase: Phase, p: Plan, last: [u32; 4]) -> Ask
     ensures { λ r. ⌜ r ≡ asksFor phase p last ⌝ }
 {
-    let c = p.chunk;
-    let b = area_last(p, last);
     match phase {
         Phase::First => asking(p.create, mcda(p), true, 0, 1),
-        Phase::Chunk(at) => asking(false, 0, true, at, chunk_blocks(c, at, b)),
+        Phase::Chunk(at) => asking_chunk(p, last, at),
         Phase::Close(_) => asking(false, 0, true, 0, 1),
         Phase::Ack => asking(false, 0, false, 0, 1),
         Phase::Ended => asking(false, 0, true, 0, 0),
     }
 }
 
-fn inside(phase: Phase, b: u32) -> bool
-    ensures { λ r. ⌜ r ≡ insideBy phase b ⌝ }
+fn inside(phase: Phase, p: Plan, last: [u32; 4]) -> bool
+    ensures { λ r. ⌜ r ≡ insideBy phase p last ⌝ }
 {
+    let caps = p.caps;
+    let b = area_last(p, last);
     match phase {
         Phase::First => true,
-        Phase::Chunk(at) => (1 <= at) & (at <= b),
+        Phase::Chunk(at) => (1 <= at) & (at <= b) & (caps.extended | (at == 1)),
         Phase::Close(_) => true,
         Phase::Ack => true,
         Phase::Ended => true,
@@ -184,10 +242,10 @@ pub fn expected(phase: Phase, p: Plan, last: [u32; 4]) -> Due
     ensures { λ r. ⌜ r ≡ dueBy phase p last ⌝ }
 {
     let a = asks_for(phase, p, last);
-    let fits = fits_room(p, last);
+    let fits = area_answer(p, last) == answers::SUCCESS;
     Due {
         bytes: pages::in_bytes(a.blocks),
-        within: fits & inside(phase, area_last(p, last)),
+        within: fits & inside(phase, p, last),
     }
 }
 

@@ -154,7 +154,7 @@ asked : (s : Collection) (ok : Bool) (e : Finish) (h : Seen) → good (e .ending
 unfolding makes
 asked s ok e h y c = move-cases (Asked s ok e h) s ok h (record {
   fail = λ x l t q. clash (ap good (ending-of q) ∙ y) l;
-  large = λ f l q. clash (ap good (ending-of q) ∙ y) refl;
+  short = λ e g t f l q. clash (ap good (ending-of q) ∙ y) g;
   first = λ f l q. not-sent q;
   again = λ f l r q. not-sent q;
   more = λ at f y q. not-sent q;

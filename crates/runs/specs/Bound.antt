@@ -3,14 +3,14 @@
 -- more, and so is the acknowledgement.
 -- Assumes nothing.
 use Prim.Native.Nat.{ℕ, _+_, _-_, _*_, _≤_, _<_}
-use mathlib.Core.Path.{_≡_, refl, sym, subst, _∙_}
+use mathlib.Core.Path.{_≡_, refl, sym, ap, subst, _∙_}
 use mathlib.Core.List.{List, [], _∷_, _++_}
-use mathlib.Core.Bool.{Bool, true, false, not, _&&_}
+use mathlib.Core.Bool.{Bool, true, false, not, _&&_, _||_, or-true}
 use native.Mathlib.Omega.{arith}
 use native.Mathlib.Nat.{add-mul, mul-add, mul-le-mul-left, mul-le-mul-right, div-eq-sub-div, div-lt-iff-lt-mul}
 use lib.ListN.{length}
 use lib.Dec.{leb, eqb}
-use borrow.Author.Tests.{le-leb, eq-eqb}
+use borrow.Author.Tests.{leb-true, le-leb, eq-eqb}
 use Rattle.choices.specs.Choice.{pick, pick-cases, larger-left, larger-right, firstThat}
 use Rattle.choices.specs.Tests.{holds, each, by-test, and-right, clash, same-or-not}
 use Rattle.answers.specs.Answers.{success, badSetup, alreadyEnded, doesNotFit}
@@ -22,16 +22,19 @@ use Rattle.header.specs.Faults.{faultless-header}
 use Rattle.plans.specs.declared.Plan.{Plan}
 use Rattle.plans.specs.declared.Phase.{Phase}
 use Rattle.plans.specs.declared.Phase.the-variants.{First, Chunk, Close, Ack, Ended}
+use Rattle.completions.specs.declared.Planned.{Planned}
 use Rattle.completions.specs.declared.Seen.{Seen}
 use Rattle.judgement.specs.declared.Ending.{Ending}
-use Rattle.judgement.specs.declared.Ending.the-variants.{Success, NoRoom}
+use Rattle.judgement.specs.declared.Ending.the-variants.{Success}
 use Rattle.judgement.specs.declared.Move.{Move}
 use Rattle.judgement.specs.declared.Move.the-variants.{End, Open, More, Skip, Acknowledge}
-use Rattle.plans.specs.Limits.{plan-limits, chunk-inside}
+use Rattle.plans.specs.Limits.{plan-limits, both-fit, fits-reach, chunk-inside}
 use Rattle.plans.specs.Phases.{judgedBy, endedBy, closingBy, silentBy, closing-is}
-use Rattle.plans.specs.Plans.{setupAnswer, areaLast, fitsRoom, chunksFrom, chunksOf, insideBy, withinBy, phaseAt}
+use Rattle.plans.specs.Plans.{setupAnswer, areaLast, fitsRoom, reach, inReach, fits, chunkOf, chunksFrom, chunksOf, insideBy, withinBy, phaseAt}
 use Rattle.completions.specs.Completions.{seenOf}
-use Rattle.completions.specs.Looked.{TakenByPlan, Opens, look-closing, taken-as-checked, opens-chunks, chunks-at-most}
+use Rattle.completions.specs.Looked.{TakenByPlan, Opens, look-closing, taken-as-checked, success-opens, opens-chunks, chunks-at-most}
+use Rattle.completions.specs.Plan.{planBy}
+use Rattle.completions.specs.Planned.{planned-refused}
 use Rattle.turns.specs.Refusals.{mostCount}
 use Rattle.collection.specs.Collection.{validState, completionFits, lookOf, refusalOf, moveOf, setupOf, answerOf}
 use Rattle.collection.specs.Laws.{move-cases}
@@ -62,7 +65,7 @@ chunks-few c b l =
 -- the commands that the attempt may still send after the awaited one
 abbrev dueBy : Phase → ℕ → Plan → List ℕ → ℕ
 dueBy First most p last = most + 1
-dueBy (Chunk at) most p last = chunksFrom (p .chunk) at (areaLast p last)
+dueBy (Chunk at) most p last = chunksFrom (chunkOf p) at (areaLast p last)
 dueBy (Close after) most p last = 0
 dueBy Ack most p last = 0
 dueBy Ended most p last = 0
@@ -75,8 +78,8 @@ pub record Reached (most : ℕ) (s : Collection) : Type 0 where
   pub plan : setupAnswer (s .plan) ≡ success
   pub low : 1 ≤ s .attempt .number
   pub high : s .attempt .number ≤ s .plan .attempts
-  pub room : fitsRoom (s .plan) (s .attempt .last) ≡ true
-  pub inside : insideBy (s .phase) (areaLast (s .plan) (s .attempt .last)) ≡ true
+  pub area : fits (s .plan) (s .attempt .last) ≡ true
+  pub inside : insideBy (s .phase) (s .plan) (s .attempt .last) ≡ true
   pub few : s .count + dueBy (s .phase) most (s .plan) (s .attempt .last) ≤ extraBy (s .phase) (s .plan) + s .attempt .number * (most + 1)
 
 few-closing : (f : Phase) (most n t : ℕ) (p : Plan) (last : List ℕ) → closingBy f ≡ true → n + dueBy f most p last ≤ extraBy f p + t → n ≤ 1 + t
@@ -105,13 +108,19 @@ few-more (Close after) most more n t p last l o h = let m = mul-le-mul-left {m =
 few-more Ack most more n t p last l o h = let m = mul-le-mul-left {m = most + 1} {n = more + 1} t (omega arith) in omega arith
 few-more Ended most more n t p last l o h = let m = mul-le-mul-left {m = most + 1} {n = more + 1} t (omega arith) in omega arith
 
--- the phase at a block: the chunk there, or the closing header
-at-inside : (at b : ℕ) → 1 ≤ at → insideBy (phaseAt at b) b ≡ true
-unfolding phaseAt
-at-inside at b h =
-    pick-cases (λ (f : Phase). insideBy f b ≡ true) (leb at b) (λ e. rw (le-leb 1 at h, e)) (λ e. refl)
+-- the phase at a block: the chunk there, which in an old run is the first one, or the closing header
+alone : (extended : Bool) (at : ℕ) → (extended ≡ false → at ≡ 1) → extended || eqb at 1 ≡ true
+alone true at h = refl
+alone false at h = eq-eqb at 1 (h refl)
 
-at-few : (at most n t : ℕ) (p : Plan) (last : List ℕ) → n + chunksFrom (p .chunk) at (areaLast p last) ≤ 1 + t
+at-inside : (at : ℕ) (p : Plan) (last : List ℕ) → 1 ≤ at → (p .caps .extended ≡ false → at ≤ areaLast p last → at ≡ 1)
+    → insideBy (phaseAt at (areaLast p last)) p last ≡ true
+unfolding phaseAt
+at-inside at p last h first =
+    pick-cases (λ (f : Phase). insideBy f p last ≡ true) (leb at (areaLast p last))
+    (λ e. rw (le-leb 1 at h, e, alone (p .caps .extended) at (λ o. first o (leb-true at (areaLast p last) e)))) (λ e. refl)
+
+at-few : (at most n t : ℕ) (p : Plan) (last : List ℕ) → n + chunksFrom (chunkOf p) at (areaLast p last) ≤ 1 + t
     → n + dueBy (phaseAt at (areaLast p last)) most p last ≤ extraBy (phaseAt at (areaLast p last)) p + t
 unfolding phaseAt
 at-few at most n t p last h =
@@ -121,9 +130,9 @@ at-few at most n t p last h =
 abbrev Leads : ℕ → Collection → Seen → Move → Type 0
 Leads most s h m = Reached most (makes s h m .state)
 
--- a header that opens an attempt fits the copy and calls for at most most chunks: a first one that its plan takes, and a later one
+-- the area of a header that opens an attempt can be collected, and calls for at most most chunks: a first one that its plan takes, and a later one
 record Calls (most : ℕ) (s : Collection) (h : Seen) : Type 0 where
-  first : s .phase ≡ First → TakenByPlan h → (fitsRoom (s .plan) (h .last) ≡ true) × (chunksOf (s .plan) (h .last) ≤ most)
+  first : s .phase ≡ First → TakenByPlan h → (fits (s .plan) (h .last) ≡ true) × (chunksOf (s .plan) (h .last) ≤ most)
   later : closingBy (s .phase) ≡ true → Opens (s .plan) h → chunksOf (s .plan) (h .last) ≤ most
 
 module _ (most : ℕ) (s : Collection) (h : Seen) (r : Reached most s) (c : Calls most s h) where
@@ -133,17 +142,17 @@ module _ (most : ℕ) (s : Collection) (h : Seen) (r : Reached most s) (c : Call
     plan = r .plan;
     low = r .low;
     high = r .high;
-    room = r .room;
+    area = r .area;
     inside = refl;
     few = few-ended (s .phase) most (s .count) (s .attempt .number * (most + 1)) (s .plan) (s .attempt .last) (r .few);
   }
 
-  large : (e : Ending) → closingBy (s .phase) ≡ true → s .attempt .number < s .plan .attempts → Leads most s h (End e true)
+  short : (e : Ending) → closingBy (s .phase) ≡ true → s .attempt .number < s .plan .attempts → Leads most s h (End e true)
   unfolding makes
-  large e f l =
+  short e f l =
       let n = few-closing (s .phase) most (s .count) (s .attempt .number * (most + 1)) (s .plan) (s .attempt .last) f (r .few) in
       let a = add-mul (s .attempt .number) 1 (most + 1) in
-      record { plan = r .plan; low = omega arith; high = omega arith; room = r .room; inside = refl; few = omega arith }
+      record { plan = r .plan; low = omega arith; high = omega arith; area = r .area; inside = refl; few = omega arith }
 
   first : s .phase ≡ First → TakenByPlan h → Leads most s h (Open false)
   unfolding makes
@@ -154,8 +163,8 @@ module _ (most : ℕ) (s : Collection) (h : Seen) (r : Reached most s) (c : Call
         plan = r .plan;
         low = r .low;
         high = r .high;
-        room = k .0;
-        inside = at-inside 1 (areaLast (s .plan) (h .last)) (omega arith);
+        area = k .0;
+        inside = at-inside 1 (s .plan) (h .last) (omega arith) (λ o g. refl);
         few = at-few 1 most (s .count + 1) (s .attempt .number * (most + 1)) (s .plan) (h .last) (omega arith);
       }
 
@@ -169,47 +178,48 @@ module _ (most : ℕ) (s : Collection) (h : Seen) (r : Reached most s) (c : Call
         plan = r .plan;
         low = omega arith;
         high = omega arith;
-        room = w .fits;
-        inside = at-inside 1 (areaLast (s .plan) (h .last)) (omega arith);
+        area = w .fits;
+        inside = at-inside 1 (s .plan) (h .last) (omega arith) (λ o g. refl);
         few = at-few 1 most (s .count + 1) ((s .attempt .number + 1) * (most + 1)) (s .plan) (h .last) (omega arith);
       }
 
   more : (at : ℕ) → s .phase ≡ Chunk at → Leads most s h (More at)
   unfolding makes
   more at f =
-      let n : s .count + chunksFrom (s .plan .chunk) at (areaLast (s .plan) (s .attempt .last)) ≤ 1 + s .attempt .number * (most + 1) = rw f at (r .few) in
+      let n : s .count + chunksFrom (chunkOf (s .plan)) at (areaLast (s .plan) (s .attempt .last)) ≤ 1 + s .attempt .number * (most + 1) = rw f at (r .few) in
       let l = plan-limits (s .plan) (r .plan) in
-      let i = chunk-inside at (areaLast (s .plan) (s .attempt .last)) (rw f at (r .inside)) in
-      let k = chunks-less (s .plan .chunk) at (areaLast (s .plan) (s .attempt .last)) (l .chunk-low) (i .1) in
+      let i = chunk-inside (s .plan) (s .attempt .last) at (rw f at (r .inside)) in
+      let k = chunks-less (chunkOf (s .plan)) at (areaLast (s .plan) (s .attempt .last)) (l .chunk-low) (i .high) in
       record {
         plan = r .plan;
         low = r .low;
         high = r .high;
-        room = r .room;
-        inside = at-inside (at + s .plan .chunk) (areaLast (s .plan) (s .attempt .last)) (omega arith);
-        few = at-few (at + s .plan .chunk) most (s .count + 1) (s .attempt .number * (most + 1)) (s .plan) (s .attempt .last) (omega arith);
+        area = r .area;
+        inside = at-inside (at + chunkOf (s .plan)) (s .plan) (s .attempt .last) (omega (arith, i .low))
+            (λ o g. let c : chunkOf (s .plan) ≡ reach = rw o in absurd (omega (arith, i .low, fits-reach (s .plan) (s .attempt .last) (r .area) o)));
+        few = at-few (at + chunkOf (s .plan)) most (s .count + 1) (s .attempt .number * (most + 1)) (s .plan) (s .attempt .last) (omega arith);
       }
 
   skip : (at : ℕ) → s .phase ≡ Chunk at → Leads most s h Skip
   unfolding makes
   skip at f =
-      let n : s .count + chunksFrom (s .plan .chunk) at (areaLast (s .plan) (s .attempt .last)) ≤ 1 + s .attempt .number * (most + 1) = rw f at (r .few) in
+      let n : s .count + chunksFrom (chunkOf (s .plan)) at (areaLast (s .plan) (s .attempt .last)) ≤ 1 + s .attempt .number * (most + 1) = rw f at (r .few) in
       let l = plan-limits (s .plan) (r .plan) in
-      let i = chunk-inside at (areaLast (s .plan) (s .attempt .last)) (rw f at (r .inside)) in
-      let k = chunks-less (s .plan .chunk) at (areaLast (s .plan) (s .attempt .last)) (l .chunk-low) (i .1) in
-      record { plan = r .plan; low = r .low; high = r .high; room = r .room; inside = refl; few = omega arith }
+      let i = chunk-inside (s .plan) (s .attempt .last) at (rw f at (r .inside)) in
+      let k = chunks-less (chunkOf (s .plan)) at (areaLast (s .plan) (s .attempt .last)) (l .chunk-low) (i .high) in
+      record { plan = r .plan; low = r .low; high = r .high; area = r .area; inside = refl; few = omega arith }
 
   acknowledge : s .phase ≡ Close false → s .plan .page ≡ controllerPage → Leads most s h Acknowledge
   unfolding makes
   acknowledge f e =
       let a : acknowledging (s .plan) ≡ 1 = rw e in
       let n : s .count + 0 ≤ 1 + s .attempt .number * (most + 1) = rw f at (r .few) in
-      record { plan = r .plan; low = r .low; high = r .high; room = r .room; inside = refl; few = omega arith }
+      record { plan = r .plan; low = r .low; high = r .high; area = r .area; inside = refl; few = omega arith }
 
   leads : (ok : Bool) → Leads most s h (moveOf s ok h)
   leads ok = move-cases (Leads most s h) s ok h (record {
     fail = λ e l t. over e;
-    large = λ f l. large NoRoom f l;
+    short = λ e g t f l. short e f l;
     first = λ f o. first f o;
     again = λ f l w. again f l w;
     more = λ at f y. more at f;
@@ -225,7 +235,7 @@ reached-more most more s l r = record {
   plan = r .plan;
   low = r .low;
   high = r .high;
-  room = r .room;
+  area = r .area;
   inside = r .inside;
   few = few-more (s .phase) most more (s .count) (s .attempt .number) (s .plan) (s .attempt .last) l (r .low) (r .few);
 }
@@ -264,11 +274,11 @@ no-area area =
     (λ e. pick-cases (λ (x : ℕ). x ≡ 0) (eqb area 2) (λ f. refl) (λ f. pick-cases (λ (x : ℕ). x ≡ 0) (eqb area 3) (λ g. refl) (λ g. refl)))
 
 pub begins : (most : ℕ) (p : Plan) → setupAnswer p ≡ success → Reached most (setupOf p .state)
-unfolding fitsRoom
+unfolding inReach fitsRoom
 begins most p e =
     let l = plan-limits p e in
     let z = no-area (p .area) in
-    rw (setup-taken p e) (record { plan = e; low = omega arith; high = l .attempts-low; room = rw z (le-leb 0 (p .room) (omega arith)); inside = refl; few = omega arith })
+    rw (setup-taken p e) (record { plan = e; low = omega arith; high = l .attempts-low; area = both-fit p (zeros 4) (rw z (or-true (p .caps .extended))) (rw z (le-leb 0 (p .room) (omega arith))); inside = refl; few = omega arith })
 
 pub run-reached : (most : ℕ) (s : Collection) (ks : List Completion) → Reached most s → mostChunks (s .plan) (headersOf s ks) ≤ most → Reached most (after s ks)
 unfolding after headersOf mostChunks
@@ -307,10 +317,28 @@ header-limit p d =
 -- so no header calls for more chunks than the house limit has blocks
 called-limit : (p : Plan) (d : List ℕ) → setupAnswer p ≡ success → calledFor p d ≤ most4
 called-limit p d e =
-    let f = chunks-few (p .chunk) (areaLast p (seenOf p d .last)) (plan-limits p e .chunk-low) in
+    let f = chunks-few (chunkOf p) (areaLast p (seenOf p d .last)) (plan-limits p e .chunk-low) in
     let l = header-limit p d in
     let m = chunks-at-most p d in
     omega arith
+
+-- and in an old run for one at most
+one-chunk : (c b : ℕ) → c ≡ reach → b ≤ reach → chunksFrom c 1 b ≤ 1
+one-chunk c b e l = rw e (omega arith)
+
+called-once : (p : Plan) (d : List ℕ) → setupAnswer p ≡ success → p .caps .extended ≡ false → calledFor p d ≤ 1
+called-once p d e o =
+    same-or-not (planBy p d .answer) success
+    (λ a.
+    let w = success-opens p d e a in
+    omega (arith, opens-chunks p d e w, one-chunk (chunkOf p) (areaLast p (seenOf p d .last)) (rw o) (fits-reach p (seenOf p d .last) (w .fits) o)))
+    (λ n. omega (arith, ap (λ (x : Planned). x .chunks) (planned-refused (p .page) (p .area) (p .caps) (p .chunk) (p .room) d (planBy p d .answer) refl n)))
+
+pub old-chunks : (p : Plan) (ds : List (List ℕ)) → setupAnswer p ≡ success → p .caps .extended ≡ false → mostChunks p ds ≤ 1
+unfolding mostChunks
+old-chunks p [] e o = omega arith
+old-chunks p (d ∷ ds) e o =
+    pick-cases (λ (x : ℕ). x ≤ 1) (leb (calledFor p d) (mostChunks p ds)) (λ t. old-chunks p ds e o) (λ t. called-once p d e o)
 
 pub step-house : (s : Collection) (k : Completion) → Reached most4 s → Reached most4 (stepBy s k .state)
 step-house s k r = step-reached most4 s k r (λ e j. called-limit (s .plan) (k .bytes) (r .plan))
@@ -344,7 +372,7 @@ unfolding validState holds withinBy
 reached-ok s r =
     let n = reached-most most4 s r in
     let o = one-more (s .plan) in
-    rw (eq-eqb (setupAnswer (s .plan)) success (r .plan), le-leb 1 (s .attempt .number) (r .low), le-leb (s .attempt .number) (s .plan .attempts) (r .high), le-leb (s .count) (mostCount (s .plan .attempts)) (omega arith), r .room, r .inside)
+    rw (eq-eqb (setupAnswer (s .plan)) success (r .plan), le-leb 1 (s .attempt .number) (r .low), le-leb (s .attempt .number) (s .plan .attempts) (r .high), le-leb (s .count) (mostCount (s .plan .attempts)) (omega arith), r .area, r .inside)
 
 -- Every state that setup and steps give is valid: whatever completes the commands, none of them gets 13.
 pub never-13 : (p : Plan) (ks : List Completion) → setupAnswer p ≡ success → validState (stateOf p ks) ≡ true
@@ -360,6 +388,12 @@ few-commands p ks e =
     let n = reached-most most (stateOf p ks) (run-reached most (setupOf p .state) ks (begins most p e) (rw b (omega arith))) in
     let q : stateOf p ks .plan ≡ p = plan-stays (setupOf p .state) ks ∙ b in
     rw q at n
+
+-- Without extended data at most 1 + 2·attempts, one more on 08h.
+pub few-old-commands : (p : Plan) (ks : List Completion) → setupAnswer p ≡ success → p .caps .extended ≡ false → stateOf p ks .count ≤ 1 + p .attempts * 2 + acknowledging p
+few-old-commands p ks e o =
+    let m = mul-le-mul-left {m = chunksIn p ks + 1} {n = 2} (p .attempts) (omega (arith, old-chunks p (headersOf (setupOf p .state) ks) e o)) in
+    omega (arith, few-commands p ks e, m)
 
 -- ---- every completion that fits brings a run nearer to its end
 
@@ -438,6 +472,13 @@ ends p ks e l = by (endedBy (stateOf p ks .phase)) refl
         let c = fitting-counts (setupOf p .state) ks (begins most4 p e) g in
         let o : setupOf p .state .count ≡ 1 = rw (setup-taken p e) in
         absurd (omega arith)
+
+-- and of an old run
+pub ends-old : (p : Plan) (ks : List Completion) → setupAnswer p ≡ success → p .caps .extended ≡ false
+    → 1 + p .attempts * 2 + acknowledging p ≤ fitting (setupOf p .state) ks → endedBy (stateOf p ks .phase) ≡ true
+ends-old p ks e o l =
+    let m = mul-le-mul-left {m = chunksIn p ks + 1} {n = 2} (p .attempts) (omega (arith, old-chunks p (headersOf (setupOf p .state) ks) e o)) in
+    ends p ks e (omega (arith, l, m))
 
 house-chunks : (p : Plan) (ds : List (List ℕ)) → setupAnswer p ≡ success → mostChunks p ds ≤ most4
 unfolding mostChunks

@@ -22,17 +22,17 @@ use Rattle.plans.specs.declared.Phase.{Phase}
 use Rattle.plans.specs.declared.Phase.the-variants.{First, Chunk, Close, Ack, Ended}
 use Rattle.plans.specs.Limits.{chunk-inside, chunk-full, chunk-short}
 use Rattle.plans.specs.Phases.{ackBy, endedBy, closing-is}
-use Rattle.plans.specs.Plans.{setupAnswer, areaLast, areaBytes, chunkBlocks, phaseAt}
+use Rattle.plans.specs.Plans.{setupAnswer, areaLast, areaBytes, chunkOf, chunkIn, chunkBlocks, phaseAt}
 use Rattle.completions.specs.declared.Seen.{Seen}
 use Rattle.turns.specs.Touched.{zerosFrom, touched, zeros-after, zeros-all}
 use Rattle.judgement.specs.declared.Ending.{Ending}
-use Rattle.judgement.specs.declared.Ending.the-variants.{Success, NoRoom}
+use Rattle.judgement.specs.declared.Ending.the-variants.{Success}
 use Rattle.judgement.specs.declared.Move.{Move}
 use Rattle.judgement.specs.declared.Move.the-variants.{End, Open, More, Skip, Acknowledge}
 use Rattle.judgement.specs.Judgement.{newerThan}
 use Rattle.turns.specs.Turns.{good}
 use Rattle.collection.specs.Collection.{expectedOf, lookOf, refusalOf, moveOf, refuses, setupOf, stepOf, copyAfter}
-use Rattle.collection.specs.Copied.{area-within, copy-length, chunk-copy}
+use Rattle.collection.specs.Copied.{area-within, copy-length, chunk-length, chunk-copy}
 use Rattle.collection.specs.Laws.{move-cases, not-refused}
 use Rattle.collection.specs.Steps.{makes, touches, setup-taken, refused-step, refused-copy, taken-step, taken-copy}
 use Rattle.collection.specs.declared.Collection.{Collection}
@@ -59,7 +59,8 @@ abbrev pub lentAll : ℕ → List Reply → List Completion
 lentAll n [] = []
 lentAll n (k ∷ ks) = lent n k ∷ lentAll n ks
 
--- a run so far: its state, its copy, the data of each attempt's good chunks in order, the last attempt in front, and the endings given
+-- a run so far: its state, its copy, the data of each attempt's good chunks in order, without the blocks that came before them, the last attempt in front, and
+-- the endings given
 pub record Held : Type 0 where
   pub state : Collection
   pub copy : List ℕ
@@ -84,10 +85,10 @@ onto d [] = d ∷ []
 onto d (g ∷ gs) = (g ++ d) ∷ gs
 
 -- by what was awaited and the step that the reply made: a header after which the attempt's first command is given starts a new attempt, and a
--- good chunk adds its data
+-- good chunk is added to its attempt's
 abbrev pub attemptsBy : Phase → Reply → Stepped → List (List ℕ) → List (List ℕ)
 attemptsBy First k x gs = pick (sent (x .next)) ([] ∷ gs) gs
-attemptsBy (Chunk at) k x gs = pick (sent (x .next) && k .ok) (onto (k .bytes) gs) gs
+attemptsBy (Chunk at) k x gs = pick (sent (x .next) && k .ok) (onto (chunkIn (x .state .plan) (k .bytes)) gs) gs
 attemptsBy (Close after) k x gs = pick (sent (x .next) && not (ackBy (x .state .phase))) ([] ∷ gs) gs
 attemptsBy Ack k x gs = gs
 attemptsBy Ended k x gs = gs
@@ -304,23 +305,24 @@ module _ (p : Plan) (first : List ℕ) (h : Held) (k : Reply) (w : Seen) (i : Ho
   more at f y =
       let c = chunk-copy (h .state) at (k .bytes) (h .copy) f (rw y at r) .0 in
       let z : length (newest (h .attempts)) ≡ block * (at - 1) = rw f at (i .kept .sized) in
-      let b = not-refused (h .state) (k .ok) (length (k .bytes)) (length (h .copy)) r .bytes-fit in
-      let d : length (k .bytes) ≡ block * chunkBlocks (p .chunk) at (areaLast p (h .state .attempt .last)) = rw (y, f, i .plan) at b in
-      let n = chunk-inside at (areaLast p (h .state .attempt .last)) (rw (f, i .plan) at (i .reached .inside)) in
-      let s = onto-length (k .bytes) (h .attempts) in
-      goes (More at) (at-going (at + h .state .plan .chunk) (areaLast (h .state .plan) (h .state .attempt .last))) refl
+      let x = chunkIn (h .state .plan) (k .bytes) in
+      let d : length (chunkIn p (k .bytes)) ≡ block * chunkBlocks (chunkOf p) at (areaLast p (h .state .attempt .last)) =
+      rw (i .plan) at (chunk-length (h .state) at (k .bytes) (length (h .copy)) f (rw y at r)) in
+      let n = chunk-inside p (h .state .attempt .last) at (rw (f, i .plan) at (i .reached .inside)) in
+      let s = onto-length (chunkIn p (k .bytes)) (h .attempts) in
+      goes (More at) (at-going (at + chunkOf (h .state .plan)) (areaLast (h .state .plan) (h .state .attempt .last))) refl
       (rw (f, y)
-      (put-fits (h .copy) (block * (at - 1)) (k .bytes) c
-      ∙ ap (λ (l : List ℕ). put l (block * (at - 1)) (k .bytes)) (g .copy)
-      ∙ laid-onto first (k .bytes) (h .attempts) (block * (at - 1)) z))
+      (put-fits (h .copy) (block * (at - 1)) x c
+      ∙ ap (λ (l : List ℕ). put l (block * (at - 1)) x) (g .copy)
+      ∙ laid-onto first x (h .attempts) (block * (at - 1)) z))
       (rw (f, y, i .plan)
-      (sized-at p (h .state .attempt .last) (at + p .chunk) _
+      (sized-at p (h .state .attempt .last) (at + chunkOf p) _
       (λ l.
-      let e = chunk-full (p .chunk) at (areaLast p (h .state .attempt .last)) (n .1) (omega arith) in
-      s ∙ filled (p .chunk) at _ _ (n .0) z (d ∙ ap (λ (x : ℕ). block * x) (sym e)))
+      let e = chunk-full (chunkOf p) at (areaLast p (h .state .attempt .last)) (n .high) (omega (arith, n .high)) in
+      s ∙ filled (chunkOf p) at _ _ (n .low) z (d ∙ ap (λ (x : ℕ). block * x) (sym e)))
       (λ l.
-      let e = chunk-short (p .chunk) at (areaLast p (h .state .attempt .last)) (n .1) (omega arith) in
-      s ∙ full at _ _ _ (n .0) (n .1) z (d ∙ ap (λ (x : ℕ). block * x) (sym e)))))
+      let e = chunk-short (chunkOf p) at (areaLast p (h .state .attempt .last)) (n .high) (omega (arith, n .high)) in
+      s ∙ full at _ _ _ (n .low) (n .high) z (d ∙ ap (λ (x : ℕ). block * x) (sym e)))))
 
   skip : (at : ℕ) → h .state .phase ≡ Chunk at → k .ok ≡ false → Kept p first (heldMade h k w Skip)
   unfolding makes touches touched
@@ -334,7 +336,7 @@ module _ (p : Plan) (first : List ℕ) (h : Held) (k : Reply) (w : Seen) (i : Ho
   unfolding makes
   keeps = move-cases (λ (m : Move). Kept p first (heldMade h k w m)) (h .state) (k .ok) w (record {
     fail = λ e l t. fails e false l;
-    large = λ f l. fails NoRoom true refl;
+    short = λ e l t f u. fails e true l;
     first = λ f l. opens false (rw f);
     again = λ f l e. opens true (rw (closing-is (h .state .phase) f .is, at-no-ack 1 (areaLast (h .state .plan) (w .last))));
     more = λ at f y. more at f y;

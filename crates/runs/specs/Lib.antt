@@ -5,6 +5,7 @@ pub mod Retained
 pub mod Acknowledged
 pub mod Held
 pub mod Stale
+pub mod Old
 pub mod Listing
 pub mod Matched
 pub mod Undisturbed

@@ -22,7 +22,6 @@ use Rattle.completions.specs.Completions.{seenOf}
 use Rattle.completions.specs.Looked.{TakenByPlan, look-closing, taken-as-checked}
 use Rattle.judgement.specs.declared.Attempt.{Attempt}
 use Rattle.judgement.specs.declared.Ending.{Ending}
-use Rattle.judgement.specs.declared.Ending.the-variants.{NoRoom}
 use Rattle.judgement.specs.declared.Move.{Move}
 use Rattle.judgement.specs.declared.Move.the-variants.{End, Open}
 use Rattle.judgement.specs.Judgement.{matches}
@@ -137,7 +136,7 @@ module _ (s : Collection) (k : Completion) (hs : List (List ℕ)) (i : At (s .ph
   unfolding makes
   moved t = move-cases After s (k .ok) h (record {
     fail = λ e l t. tt;
-    large = λ c l. tt;
+    short = λ e g t c l. tt;
     first = λ f o. opens false (ap judgedBy f) (opening-seen t f o);
     again = λ c l r. opens true (closing-is (s .phase) c .judged) (closing-seen c);
     more = λ at f y. at-chunks _ _ _ _ (still-shown at f);
@@ -176,7 +175,7 @@ module _ (s : Collection) (k : Completion) (hs : List (List ℕ)) (i : At (s .ph
         rw r
         (move-cases Pairs s (k .ok) h (record {
           fail = λ x l t. not-so x false l;
-          large = λ c l. not-so NoRoom true refl;
+          short = λ x l t c m. not-so x true l;
           first = λ f r x. not-sent x;
           again = λ c l r x. not-sent x;
           more = λ at f z x. not-sent x;

@@ -23,7 +23,7 @@ use Rattle.completions.specs.declared.Seen.{Seen}
 use Rattle.judgement.specs.declared.Move.{Move}
 use Rattle.plans.specs.Awaited.{commandBy, asks-rae, asks-create}
 use Rattle.plans.specs.Phases.{firstBy, ackBy, endedBy, silentBy, closing-is}
-use Rattle.plans.specs.Plans.{setupAnswer, areaLast, phaseAt}
+use Rattle.plans.specs.Plans.{setupAnswer, areaLast, phaseAt, chunkOf}
 use Rattle.collection.specs.Collection.{awaitedOf, refusalOf, lookOf, moveOf, beginning}
 use Rattle.collection.specs.Copied.{not-sent}
 use Rattle.collection.specs.Laws.{move-cases}
@@ -97,7 +97,7 @@ gave : (s : Collection) (ok : Bool) (h : Seen) (w : Words) → Gave s h w (moveO
 unfolding makes awaitedOf
 gave s ok h w = move-cases (Gave s h w) s ok h (record {
   fail = λ n l t q. not-sent (sym q);
-  large = λ f l q. not-sent (sym q);
+  short = λ e g t f l q. not-sent (sym q);
   first = λ f r q. record {
     awaits = same-words q;
     later = at-later 1 (areaLast (s .plan) (h .last));
@@ -110,8 +110,8 @@ gave s ok h w = move-cases (Gave s h w) s ok h (record {
   };
   more = λ at f y q. record {
     awaits = same-words q;
-    later = at-later (at + s .plan .chunk) (areaLast (s .plan) (s .attempt .last));
-    ack = λ a. clash a (at-no-ack (at + s .plan .chunk) (areaLast (s .plan) (s .attempt .last)));
+    later = at-later (at + chunkOf (s .plan)) (areaLast (s .plan) (s .attempt .last));
+    ack = λ a. clash a (at-no-ack (at + chunkOf (s .plan)) (areaLast (s .plan) (s .attempt .last)));
   };
   skip = λ at f n q. record { awaits = same-words q; later = refl; ack = λ a. clash {t = true} refl (sym a) };
   acknowledge = λ f m p q. record { awaits = same-words q; later = refl; ack = λ a. p };
@@ -138,12 +138,12 @@ rae-by f p last e = asks-rae f p last ∙ rw e
 create-by : (f : Phase) (p : Plan) (last : List ℕ) → laterBy f ≡ true → commandBy f p last .create ≡ false
 create-by f p last e = asks-create f p last ∙ rw (neither (firstBy f) (endedBy f) e .0)
 
-pub awaited-reads : (s : Collection) → Reached most4 s → endedBy (s .phase) ≡ false → readOf true (awaitedOf s) ≡ commandBy (s .phase) (s .plan) (s .attempt .last)
+pub awaited-reads : (s : Collection) → Reached most4 s → endedBy (s .phase) ≡ false → readOf (s .plan .caps .extended) (awaitedOf s) ≡ commandBy (s .phase) (s .plan) (s .attempt .last)
 unfolding awaitedOf
 awaited-reads s r g = awaited-taken s (reached-ok s r) g .reads
 
 pub given-reads : (s : Collection) (k : Completion) (w : Words) → Reached most4 s → stepBy s k .next ≡ Send w
-    → readOf true w ≡ commandBy (stepBy s k .state .phase) (stepBy s k .state .plan) (stepBy s k .state .attempt .last)
+    → readOf (stepBy s k .state .plan .caps .extended) w ≡ commandBy (stepBy s k .state .phase) (stepBy s k .state .plan) (stepBy s k .state .attempt .last)
 given-reads s k w r q =
     let g = step-gives s k w q in
     rw (g .awaits) (awaited-reads (stepBy s k .state) (step-house s k r) (neither (firstBy (stepBy s k .state .phase)) (endedBy (stepBy s k .state .phase)) (g .later) .1))
@@ -169,7 +169,7 @@ silent : (s : Collection) (ok : Bool) (h : Seen) → silentBy (s .phase) ≡ tru
 unfolding makes
 silent s ok h e = move-cases (λ (m : Move). Silent (makes s h m)) s ok h (record {
   fail = λ n l t. record { gives = refl; stays = refl };
-  large = λ f l. record { gives = refl; stays = refl };
+  short = λ e g t f l. record { gives = refl; stays = refl };
   first = λ f r. clash {t = true} refl (sym (rw f at e));
   again = λ f l r. let q = closing-is (s .phase) f in clash e (rw (q .no-ack, q .going));
   more = λ at f y. clash {t = true} refl (sym (rw f at e));

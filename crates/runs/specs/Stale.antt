@@ -11,7 +11,7 @@ use Rattle.copies.specs.Parts.{zeros, putAt}
 use Rattle.pages.specs.Pages.{hostPage, lastOk, sameLast}
 use Rattle.header.specs.Header.{fieldFault, faultOf, checkOf}
 use Rattle.plans.specs.declared.Plan.{Plan}
-use Rattle.plans.specs.Plans.{setupAnswer, fitsRoom, chunkBlocks, withinBy, phaseAt}
+use Rattle.plans.specs.Plans.{setupAnswer, inReach, fitsRoom, areaAnswer, chunkBlocks, withinBy, phaseAt}
 use Rattle.completions.specs.Plan.{answerTo, plannedBy, planOf}
 use Rattle.completions.specs.Completions.{generationOf, plannedSeen, seenOf, lookBy}
 use Rattle.judgement.specs.declared.Ending.the-variants.{Success}
@@ -33,15 +33,15 @@ plan = record {
 }
 
 -- a header of 07h: areas 1 to 3 end at the same block
-abbrev header : ℕ → ℕ → List ℕ
+abbrev pub header : ℕ → ℕ → List ℕ
 header generation last =
     (hostPage ∷ zeros 7) ++ (last ∷ 0 ∷ last ∷ 0 ∷ last ∷ 0 ∷ []) ++ zeros 366 ++ (1 ∷ generation ∷ 0 ∷ 0 ∷ []) ++ zeros 128
 
-abbrev good : List ℕ → Reply
+abbrev pub good : List ℕ → Reply
 good d = record { ok = true; bytes = d }
 
 -- a block of the same bytes
-abbrev filled : ℕ → List ℕ
+abbrev pub filled : ℕ → List ℕ
 filled n = replicate 512 n
 
 abbrev replies : List Reply
@@ -59,5 +59,5 @@ replies =
 pub stale : (heldOf plan (replicate 1024 1) replies .copy ≡ filled 9 ++ zeros 512)
     × (heldOf plan (replicate 1024 1) replies .attempts ≡ filled 9 ∷ (filled 7 ++ filled 8) ∷ [])
     × (heldOf plan (replicate 1024 1) replies .endings ≡ record { ending = Success false; count = 6 } ∷ [])
-unfolding heldAfter stepOf copyAfter setupOf decideOf actOf turnBy turnOf moveOf refusalOf completionFits validState expectedOf lookOf lookBy plannedSeen planOf plannedBy answerTo seenOf generationOf touched testsOf firstOrder matchOrder laterOrder judgeBy setupAnswer fitsRoom chunkBlocks withinBy phaseAt checkOf faultOf fieldFault lastOk sameLast holds putAt
+unfolding heldAfter stepOf copyAfter setupOf decideOf actOf turnBy turnOf moveOf refusalOf completionFits validState expectedOf lookOf lookBy plannedSeen planOf plannedBy answerTo seenOf generationOf touched testsOf firstOrder matchOrder laterOrder judgeBy setupAnswer inReach fitsRoom areaAnswer chunkBlocks withinBy phaseAt checkOf faultOf fieldFault lastOk sameLast holds putAt
 stale = (refl, refl, refl)

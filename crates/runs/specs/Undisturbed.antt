@@ -18,7 +18,7 @@ use Rattle.header.specs.Header.{faultless}
 use Rattle.plans.specs.declared.Plan.{Plan}
 use Rattle.plans.specs.declared.Phase.the-variants.{First, Chunk, Close, Ack}
 use Rattle.plans.specs.Phases.{closingBy, refusedBy}
-use Rattle.plans.specs.Plans.{setupAnswer, areaLast, chunksFrom, phaseAt}
+use Rattle.plans.specs.Plans.{setupAnswer, areaLast, chunksFrom, phaseAt, chunkOf}
 use Rattle.plans.specs.Limits.{plan-limits, phase-chunk, phase-close}
 use Rattle.completions.specs.declared.Seen.{Seen}
 use Rattle.completions.specs.Plan.{planBy}
@@ -48,15 +48,15 @@ past c at b l h = div-eq-of-lt {n = b + c - at} {m = c} (omega arith)
 pub record Left (s : Collection) (chunks : ℕ) : Type 0 where
   pub at : ℕ
   pub phase : s .phase ≡ phaseAt at (areaLast (s .plan) (s .attempt .last))
-  pub chunks-are : chunksFrom (s .plan .chunk) at (areaLast (s .plan) (s .attempt .last)) ≡ chunks
-  pub some : 1 ≤ s .plan .chunk
+  pub chunks-are : chunksFrom (chunkOf (s .plan)) at (areaLast (s .plan) (s .attempt .last)) ≡ chunks
+  pub some : 1 ≤ chunkOf (s .plan)
 
 -- with none to come the closing header is awaited, and else a chunk
 pub none-left : (s : Collection) → Left s 0 → s .phase ≡ Close false
 none-left s l =
     let b = areaLast (s .plan) (s .attempt .last) in
     by-test (leb (l .at) b)
-    (λ t. absurd (omega (arith, chunks-less (s .plan .chunk) (l .at) b (l .some) (leb-true (l .at) b t), l .chunks-are)))
+    (λ t. absurd (omega (arith, chunks-less (chunkOf (s .plan)) (l .at) b (l .some) (leb-true (l .at) b t), l .chunks-are)))
     (λ t. l .phase ∙ sym (phase-close (l .at) b (leb-false (l .at) b t)))
 
 module _ (s : Collection) (n : ℕ) (l : Left s (suc n)) where
@@ -64,23 +64,23 @@ module _ (s : Collection) (n : ℕ) (l : Left s (suc n)) where
   b = areaLast (s .plan) (s .attempt .last)
 
   within : l .at ≤ b
-  within = by-test (leb (l .at) b) (λ t. leb-true (l .at) b t) (λ t. absurd (omega (arith, past (s .plan .chunk) (l .at) b (l .some) (leb-false (l .at) b t), l .chunks-are)))
+  within = by-test (leb (l .at) b) (λ t. leb-true (l .at) b t) (λ t. absurd (omega (arith, past (chunkOf (s .plan)) (l .at) b (l .some) (leb-false (l .at) b t), l .chunks-are)))
 
   pub some-left : s .phase ≡ Chunk (l .at)
   some-left = l .phase ∙ sym (phase-chunk (l .at) b within)
 
   -- a chunk that comes is one less to come
   chunk-taken-is : (k : Completion) → k .ok ≡ true → refusalOf s true (length (k .bytes)) (k .copy) ≡ success
-      → stepBy s k .state ≡ inPhase s (phaseAt (l .at + s .plan .chunk) b)
+      → stepBy s k .state ≡ inPhase s (phaseAt (l .at + chunkOf (s .plan)) b)
   chunk-taken-is k e r = rw e (ap (λ (y : Stepped). y .state) (chunk-good s (l .at) (k .bytes) (k .copy) some-left r))
 
   next-left : (k : Completion) → k .ok ≡ true → refusalOf s true (length (k .bytes)) (k .copy) ≡ success → Left (stepBy s k .state) n
   next-left k e r =
       subst (λ (t : Collection). Left t n) (sym (chunk-taken-is k e r))
       (record {
-        at = l .at + s .plan .chunk;
+        at = l .at + chunkOf (s .plan);
         phase = refl;
-        chunks-are = omega (arith, chunks-less (s .plan .chunk) (l .at) b (l .some) within, l .chunks-are);
+        chunks-are = omega (arith, chunks-less (chunkOf (s .plan)) (l .at) b (l .some) within, l .chunks-are);
         some = l .some;
       })
 

@@ -1,16 +1,17 @@
 -- A page's bytes, and a transfer of them: document 01, "Header bytes": the header, then the blocks, and bytes past the end are zeros.
 -- Assumes nothing.
-use Prim.Native.Nat.{ℕ, _+_, _*_, _≤_, min}
-use mathlib.Core.Path.{_≡_, refl, ap, _∙_}
+use Prim.Native.Nat.{ℕ, _+_, _-_, _*_, _≤_, min}
+use mathlib.Core.Path.{_≡_, refl, sym, ap, _∙_}
 use mathlib.Core.Bool.{_&&_}
 use mathlib.Core.List.{List, _++_, append-assoc}
 use native.Mathlib.Omega.{arith}
-use lib.ListN.{length, take, drop, length-take, length-append}
-use lib.Seq.{take-at}
+use lib.ListN.{length, take, drop, length-take, length-append, replicate-append-replicate}
+use lib.Seq.{take-at, drop-at, drop-drop}
 use lib.Dec.{leb}
 use borrow.Author.Tests.{le-leb, leb-true}
 use Rattle.choices.specs.Choice.{pick, pick-cases}
 use Rattle.choices.specs.Tests.{and-left, and-right}
+use Rattle.copies.specs.Lists.{take-append, drop-append, drop-take, take-zeros}
 use Rattle.copies.specs.Parts.{zeros, length-zeros}
 use Rattle.pages.specs.Pages.{block}
 
@@ -45,6 +46,31 @@ served-fits header store blocks offset n buf h k = rw (le-leb (block * blocks) (
 pub window-length : (offset n : ℕ) (page : List ℕ) → length (windowOf offset n page) ≡ n
 unfolding windowOf
 window-length offset n page = simp (length-take, length-append, length-zeros) (omega arith)
+
+-- a window less its first bytes is the window that starts after them
+drop-zeros : (i n : ℕ) → i ≤ n → drop i (zeros n) ≡ zeros (n - i)
+drop-zeros i n h =
+    ap (λ (k : ℕ). drop i (zeros k)) (let e : n ≡ i + (n - i) = omega arith in e)
+    ∙ ap (λ (l : List ℕ). drop i l) (sym (replicate-append-replicate i (n - i) 0))
+    ∙ drop-at (zeros i) (zeros (n - i)) i (length-zeros i)
+
+enough-zeros : (page : List ℕ) (n z : ℕ) → n ≤ z → take n (page ++ zeros z) ≡ take n (page ++ zeros n)
+enough-zeros page n z h =
+    take-append n page (zeros z)
+    ∙ ap (λ (l : List ℕ). take n page ++ l) (take-zeros (n - length page) z (omega arith) ∙ sym (take-zeros (n - length page) n (omega arith)))
+    ∙ sym (take-append n page (zeros n))
+
+pub window-after : (offset front n : ℕ) (page : List ℕ) → drop front (windowOf offset (front + n) page) ≡ windowOf (offset + front) n page
+unfolding windowOf
+window-after offset front n page =
+    let rest = drop offset page in
+    drop-take (front + n) front (rest ++ zeros (front + n))
+    ∙ ap (λ (k : ℕ). take k (drop front (rest ++ zeros (front + n)))) (let e : front + n - front ≡ n = omega arith in e)
+    ∙ ap (λ (l : List ℕ). take n l)
+    (drop-append front rest (zeros (front + n))
+    ∙ ap (λ (l : List ℕ). drop front rest ++ l) (drop-zeros (front - length rest) (front + n) (omega arith)))
+    ∙ enough-zeros (drop front rest) n (front + n - (front - length rest)) (omega arith)
+    ∙ ap (λ (l : List ℕ). take n (l ++ zeros n)) (drop-drop front offset page)
 
 -- the header read alone, 512 bytes from 0, is the header
 pub window-header : (header store : List ℕ) (blocks : ℕ) → length header ≡ block → windowOf 0 block (pageBytes header store blocks) ≡ header

@@ -5,7 +5,7 @@ use mathlib.Core.Path.{_≡_, refl, sym, ap, subst, _∙_}
 use mathlib.Core.List.{List, [], _++_, append-assoc}
 use mathlib.Core.Bool.{Bool, true, false, not}
 use native.Mathlib.Omega.{arith}
-use lib.ListN.{length, take, drop, length-append, length-take}
+use lib.ListN.{length, take, drop, length-append, length-take, length-drop}
 use lib.Seq.{take-at, take-add}
 use lib.Dec.{eqb}
 use borrow.Author.Tests.{eq-eqb, ne-eqb, eqb-true, eqb-false}
@@ -19,11 +19,11 @@ use Rattle.plans.specs.declared.Phase.{Phase}
 use Rattle.plans.specs.declared.Phase.the-variants.{Chunk, Close, Ack}
 use Rattle.plans.specs.Phases.{judgedBy}
 use Rattle.plans.specs.Limits.{chunk-inside, chunk-full, chunk-short}
-use Rattle.plans.specs.Plans.{areaLast, areaBytes, chunkBlocks}
+use Rattle.plans.specs.Plans.{areaLast, areaBytes, chunkOf, leadOf, chunkIn, chunkBlocks, expectedBy}
 use Rattle.completions.specs.Completions.{lookBy}
 use Rattle.judgement.specs.Judgement.{newerThan}
 use Rattle.turns.specs.Turns.{followingOf}
-use Rattle.collection.specs.Collection.{awaitedOf, expectedOf, lookOf, refusalOf, sends, ends}
+use Rattle.collection.specs.Collection.{awaitedOf, expectedOf, lookOf, refusalOf, sends, ends, copyAfter}
 use Rattle.collection.specs.Steps.{inPhase, endedIn, chunk-good, chunk-refused, ack-done}
 use Rattle.judgement.specs.declared.Ending.the-variants.{Success}
 use Rattle.collection.specs.declared.Collection.{Collection}
@@ -75,7 +75,7 @@ module _ (D : Source) (p : Plan) (K : Keeps D p) (s : Stand D) (o : Done (D .Sta
     last = areaLast p (state .attempt .last)
 
     abbrev n : ℕ
-    n = chunkBlocks (p .chunk) at last
+    n = chunkBlocks (chunkOf p) at last
 
     -- the stand after it, whose last header is the one before
     abbrev plain : Stepped → List ℕ → Stand D
@@ -93,7 +93,7 @@ module _ (D : Source) (p : Plan) (K : Keeps D p) (s : Stand D) (o : Done (D .Sta
     plain-is : (x : Stepped) (y : List ℕ) → plain x y ≡ stepped D s o x y
     plain-is x y = rw (f, same)
 
-    due : expectedOf state ≡ block * n
+    due : expectedOf state ≡ expectedBy (Chunk at) p (state .attempt .last)
     unfolding expectedOf
     due = rw (f, c .plan)
 
@@ -117,18 +117,21 @@ module _ (D : Source) (p : Plan) (K : Keeps D p) (s : Stand D) (o : Done (D .Sta
           begun = omega (arith, op .begun, length-append (s .sent) (given (x .next)));
         }
 
-    served : o .answer ≡ success → length (o .bytes) ≡ block * n
-        → (K .shows (s .source) .last ≡ state .attempt .last → o .bytes ≡ take (block * n) (drop (block * (at - 1)) (K .area (s .source))))
+    served : o .answer ≡ success → length (o .bytes) ≡ expectedBy (Chunk at) p (state .attempt .last)
+        → (K .shows (s .source) .last ≡ state .attempt .last → chunkIn p (o .bytes) ≡ take (block * n) (drop (block * (at - 1)) (K .area (s .source))))
         → Inv D p K (hears ours D s o)
     unfolding awaitedOf
     served a l right =
         let z : fine o ≡ true = eq-eqb (o .answer) success a in
         let t : refusalOf state true (length (o .bytes)) (length (s .copy)) ≡ success =
         takes state true (o .bytes) (length (s .copy)) (c .house) (rw f) room (l ∙ sym due) in
-        let i = chunk-inside at last (rw (f, c .plan) at (c .house .inside)) in
+        let i = chunk-inside p (state .attempt .last) at (rw (f, c .plan) at (c .house .inside)) in
         let x : Stepped = sends (inPhase state (followingOf (state .plan) (state .attempt .last) at)) in
-        let y : List ℕ = put (s .copy) (block * (at - 1)) (o .bytes) in
-        let cc = chunk-copy state at (o .bytes) (s .copy) f t in
+        let y : List ℕ = put (s .copy) (block * (at - 1)) (chunkIn p (o .bytes)) in
+        let cc : (block * (at - 1) + length (chunkIn p (o .bytes)) ≤ length (s .copy)) × (copyAfter state true (o .bytes) (s .copy) ≡ y) =
+        subst (λ (q : Plan). (block * (at - 1) + length (chunkIn q (o .bytes)) ≤ length (s .copy)) × (copyAfter state true (o .bytes) (s .copy) ≡ put (s .copy) (block * (at - 1)) (chunkIn q (o .bytes))))
+        (c .plan) (chunk-copy state at (o .bytes) (s .copy) f t) in
+        let long : length (chunkIn p (o .bytes)) ≡ block * n = length-drop (block * leadOf p) (o .bytes) ∙ omega arith in
         let ex : step D p K s o ≡ x = rw z (chunk-good state at (o .bytes) (length (s .copy)) f t) in
         let ey : copied D p K s o ≡ y = rw z (cc .1) in
         let place : block * (at - 1 + n) ≡ block * (at - 1) + block * n = omega arith in
@@ -136,19 +139,19 @@ module _ (D : Source) (p : Plan) (K : Keeps D p) (s : Stand D) (o : Done (D .Sta
           opened = still-opened x y refl refl refl;
           kept = λ none live same-last.
               let k = m .kept none live same-last in
-              let e : o .bytes ≡ take (block * n) (drop (block * (at - 1)) (K .area (s .checked))) = right same-last ∙ rw (k .area) in
+              let e : chunkIn p (o .bytes) ≡ take (block * n) (drop (block * (at - 1)) (K .area (s .checked))) = right same-last ∙ rw (k .area) in
               record {
                 area = k .area;
                 whole = refl;
-                filled = rw place (put-grows (s .copy) (K .area (s .checked)) (o .bytes) (block * (at - 1)) (block * n) (cc .0) l (k .filled) e);
+                filled = rw place (put-grows (s .copy) (K .area (s .checked)) (chunkIn p (o .bytes)) (block * (at - 1)) (block * n) (cc .0) long (k .filled) e);
               };
-          some = λ z. absurd (omega (arith, i .0, i .1, z));
+          some = λ z. absurd (omega (arith, i .low, i .high, z));
         } in
         finish D p K s o x y ex ey c (rw f (c .tries))
-        (at-phase D p K (stepped D s o x y) (at + state .plan .chunk) (at - 1 + n) (areaLast (state .plan) (state .attempt .last))
+        (at-phase D p K (stepped D s o x y) (at + chunkOf (state .plan)) (at - 1 + n) (areaLast (state .plan) (state .attempt .last))
         (ap (λ (q : Plan). areaLast q (state .attempt .last)) (c .plan))
-        (λ h. rw (c .plan) (full-done (p .chunk) at last (i .0) (i .1) (rw (c .plan) at h)))
-        (λ h. rw (c .plan) (short-done (p .chunk) at last (i .0) (i .1) (rw (c .plan) at h)))
+        (λ h. rw (c .plan) (full-done (chunkOf p) at last (i .low) (i .high) (rw (c .plan) at h)))
+        (λ h. rw (c .plan) (short-done (chunkOf p) at last (i .low) (i .high) (rw (c .plan) at h)))
         (subst (λ (v : Stand D). Mid D p K v (at - 1 + n) true) (plain-is x y) mid))
 
     -- refused, and then the page is no longer the one that the attempt's header showed
@@ -157,7 +160,7 @@ module _ (D : Source) (p : Plan) (K : Keeps D p) (s : Stand D) (o : Done (D .Sta
     refused a right =
         let z : fine o ≡ false = ne-eqb (o .answer) success a in
         let t : refusalOf state false 0 (length (s .copy)) ≡ success = takes state false [] (length (s .copy)) (c .house) (rw f) room refl in
-        let i = chunk-inside at last (rw (f, c .plan) at (c .house .inside)) in
+        let i = chunk-inside p (state .attempt .last) at (rw (f, c .plan) at (c .house .inside)) in
         let x : Stepped = sends (inPhase state (Close true)) in
         let ex : step D p K s o ≡ x = rw z (chunk-refused state at [] (length (s .copy)) f t) in
         let ey : copied D p K s o ≡ s .copy =
@@ -167,11 +170,11 @@ module _ (D : Source) (p : Plan) (K : Keeps D p) (s : Stand D) (o : Done (D .Sta
         (record {
           opened = still-opened x (s .copy) refl refl refl;
           kept = λ none live same-last. absurd (a (right same-last));
-          some = λ z. absurd (omega (arith, i .0, i .1, z));
+          some = λ z. absurd (omega (arith, i .low, i .high, z));
         }))
 
-    pub chunk-inv : (o .answer ≡ success → length (o .bytes) ≡ block * n)
-        → (K .shows (s .source) .last ≡ state .attempt .last → (o .answer ≡ success) × (o .bytes ≡ take (block * n) (drop (block * (at - 1)) (K .area (s .source)))))
+    pub chunk-inv : (o .answer ≡ success → length (o .bytes) ≡ expectedBy (Chunk at) p (state .attempt .last))
+        → (K .shows (s .source) .last ≡ state .attempt .last → (o .answer ≡ success) × (chunkIn p (o .bytes) ≡ take (block * n) (drop (block * (at - 1)) (K .area (s .source)))))
         → Inv D p K (hears ours D s o)
     chunk-inv long right =
         same-or-not (o .answer) success

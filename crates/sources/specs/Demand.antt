@@ -25,7 +25,7 @@ use Rattle.collection.specs.declared.Next.{Next}
 use Rattle.collection.specs.declared.Next.the-variants.{Send, End as Ends, Refuse}
 use Rattle.collection.specs.declared.Stepped.{Stepped}
 use Rattle.runs.specs.Run.{given, acknowledging, mostChunks}
-use Rattle.runs.specs.Bound.{Reached, reached-count, begins}
+use Rattle.runs.specs.Bound.{Reached, reached-count, reached-more, old-chunks, begins}
 use Rattle.sources.specs.Source.{Source, ours, Turn, Stand, forLent, happen, hears, turnBy, run, begun, collected}
 use Rattle.sources.specs.Keeps.{Keeps}
 use Rattle.sources.specs.Promise.{Told, mostCommands, Promise, Finished}
@@ -89,6 +89,9 @@ module _ (D : Source) (p : Plan) (K : Keeps D p) where
         counted = c .counted;
         bounded = bound k (mostChunks p (s .headers)) s c (c .reached) h;
         limited = bound k most4 s c (c .house) h;
+        once = λ o.
+            let e : setupAnswer p ≡ success = rw (c .plan) at (c .reached .plan) in
+            bound k 1 s c (reached-more (mostChunks p (s .headers)) 1 (s .collection) (old-chunks p (s .headers) e o) (c .reached)) h;
         never = λ n e. let o = at-end s i (Refuse n) e refl in let z : _≡_ {A = ℕ} 0 1 = differ (sym e ∙ o .said) in absurd (omega arith);
         told = λ e q. let o = at-end s i (Ends e) q refl in subst (λ (x : Finish). Told D p K x s) (same-ending (sym (o .said) ∙ q)) (o .told);
         says = λ e q. let o = at-end s i (Ends e) q refl in sym (ap (λ (x : Finish). x .count) (same-ending (sym (o .said) ∙ q))) ∙ o .count;

@@ -21,20 +21,24 @@ use Rattle.plans.specs.declared.Phase.{Phase}
 use Rattle.plans.specs.declared.Phase.the-variants.{First, Chunk, Ack}
 use Rattle.completions.specs.declared.Seen.{Seen}
 use Rattle.plans.specs.Phases.{judgedBy, closingBy, refusedBy, judged-going}
-use Rattle.plans.specs.Plans.{areaLast, areaBytes, fitsRoom}
+use Rattle.plans.specs.Plans.{areaLast, areaBytes, fitsRoom, areaAnswer, fits}
+use Rattle.plans.specs.Limits.{short-is, near-is, far-is}
 use Rattle.plans.specs.Awaited.{header-block}
 use Rattle.completions.specs.Completions.{seenOf, showsNone}
 use Rattle.judgement.specs.Judgement.{matches}
 use Rattle.collection.specs.Collection.{awaitedOf, expectedOf, refusalOf, numberIn, sends, ends}
-use Rattle.collection.specs.Steps.{inPhase, openedBy, endedIn, first-none, first-large, first-opens, later-none, later-done, later-acknowledges, later-large, later-opens}
-use Rattle.judgement.specs.declared.Ending.the-variants.{Success, NoRoom, Withdrawn, Nothing}
+use Rattle.collection.specs.Steps.{inPhase, openedBy, endedIn, first-none, first-short, first-opens, later-none, later-done, later-acknowledges, later-short, later-opens}
+use Rattle.judgement.specs.declared.Ending.{Ending}
+use Rattle.judgement.specs.declared.Ending.the-variants.{Success, OutOfReach, NoRoom, Withdrawn, Nothing}
+use Rattle.judgement.specs.Endings.{shortBy}
+use Rattle.turns.specs.Turns.{good as succeeds}
 use Rattle.collection.specs.declared.Collection.{Collection}
 use Rattle.collection.specs.declared.Next.the-variants.{Send}
 use Rattle.collection.specs.declared.Stepped.{Stepped}
 use Rattle.collection.specs.Copied.{ending-copy, sending-copy}
 use Rattle.sources.specs.Source.{Source, ours, Done, heard, Stand, forLent, fine, dataOf, stepped, hears}
 use Rattle.sources.specs.Keeps.{Keeps, Header}
-use Rattle.sources.specs.Promise.{Told, succeeded, lacked, withdrew, empty}
+use Rattle.sources.specs.Promise.{Told, succeeded, lacked, unreached, withdrew, empty}
 use Rattle.sources.specs.Inv.{Common, Still, SameLast, Opened, Mid, Had, Inv}
 use Rattle.sources.specs.Heard.{takes, at-phase, step, copied, finish, zeroed, ended}
 
@@ -74,7 +78,7 @@ module _ (D : Source) (p : Plan) (K : Keeps D p) (s : Stand D) (o : Done (D .Sta
   none-is : (t : Bool) → showsNone p h ≡ t → showsNone (state .plan) found ≡ t
   none-is t e = rw (look, c .plan) e
 
-  fits-is : (t : Bool) → fitsRoom p (h .last) ≡ t → fitsRoom (state .plan) (found .last) ≡ t
+  fits-is : (t : Bool) → fits p (h .last) ≡ t → fits (state .plan) (found .last) ≡ t
   fits-is t e = rw (look, c .plan) e
 
   -- the stand after it, whose last header this is
@@ -95,14 +99,22 @@ module _ (D : Source) (p : Plan) (K : Keeps D p) (s : Stand D) (o : Done (D .Sta
 
   -- ---- endings
 
-  -- the area is larger than the copy
-  large : (next : Bool) → fitsRoom p (h .last) ≡ false → numberIn state next ≤ s .counts .changes + 1 → step D p K s o ≡ ends (endedIn state next) NoRoom
-      → Inv D p K (hears ours D s o)
+  -- one that leaves zeros, and is true
+  fails : (next : Bool) (e : Ending) → succeeds e ≡ false → numberIn state next ≤ s .counts .changes + 1 → step D p K s o ≡ ends (endedIn state next) e
+      → Told D p K (record { ending = e; count = state .count }) (judged (ends (endedIn state next) e) (zeros (p .room))) → Inv D p K (hears ours D s o)
+  fails next e l t ex told =
+      ended D p K s o c next e (zeros (p .room)) ex (zeroed D p K s o c next e l ex) (rw f (omega arith))
+      (subst (λ (z : Stand D). Told D p K (record { ending = e; count = state .count }) z) (judged-is (ends (endedIn state next) e) (zeros (p .room))) told)
+
+  -- the area is out of reach, or larger than the copy
+  short : (next : Bool) → fits p (h .last) ≡ false → numberIn state next ≤ s .counts .changes + 1
+      → step D p K s o ≡ ends (endedIn state next) (shortBy (areaAnswer (state .plan) (found .last))) → Inv D p K (hears ours D s o)
   unfolding fitsRoom
-  large next r t ex =
-      ended D p K s o c next NoRoom (zeros (p .room)) ex (zeroed D p K s o c next NoRoom refl ex) (rw f (omega arith))
-      (subst (λ (z : Stand D). Told D p K (record { ending = NoRoom; count = state .count }) z) (judged-is (ends (endedIn state next) NoRoom) (zeros (p .room)))
-      (lacked refl refl (leb-false (areaBytes p (h .last)) (p .room) r)))
+  short next r t ex =
+      let says : areaAnswer (state .plan) (found .last) ≡ areaAnswer p (h .last) = rw (look, c .plan) in
+      short-is p (h .last) r
+      (λ far b. let n = far-is p (h .last) far in fails next OutOfReach refl t (ex ∙ rw (says, b)) (unreached refl refl (n .0) (n .1)))
+      (λ near large b. fails next NoRoom refl t (ex ∙ rw (says, b)) (lacked refl refl (near-is p (h .last) near) (leb-false (areaBytes p (h .last)) (p .room) large)))
 
   -- ---- the header opens an attempt
 
@@ -147,11 +159,11 @@ module _ (D : Source) (p : Plan) (K : Keeps D p) (s : Stand D) (o : Done (D .Sta
       ended D p K s o c false Nothing (zeros (p .room)) ex (zeroed D p K s o c false Nothing refl ex) (rw f (omega arith))
       (subst (λ (z : Stand D). Told D p K (record { ending = Nothing; count = state .count }) z) (judged-is (ends (endedIn state false) Nothing) (zeros (p .room)))
       (empty refl refl n (omega (arith, one, length-append (s .sent) [])))))
-      (λ n. by-test (fitsRoom p (h .last))
+      (λ n. by-test (fits p (h .last))
       (λ r. opens false n (omega arith) (omega arith)
       (first-opens state (fine o) (dataOf o) (length (s .copy)) taken e is-fine sound (none-is false n) (fits-is true r) ∙ ap (λ (x : Seen). sends (openedBy state false x)) look))
-      (λ r. large false r (omega arith)
-      (first-large state (fine o) (dataOf o) (length (s .copy)) taken e is-fine sound (none-is false n) (fits-is false r))))
+      (λ r. short false r (omega arith)
+      (first-short state (fine o) (dataOf o) (length (s .copy)) taken e is-fine sound (none-is false n) (fits-is false r))))
 
   -- ---- a header that closes an attempt: m is what was known before it
 
@@ -196,12 +208,12 @@ module _ (D : Source) (p : Plan) (K : Keeps D p) (s : Stand D) (o : Done (D .Sta
           let hit = changed e in
           let t : state .attempt .number + 1 ≤ s .counts .changes + 1 = omega (arith, c .tries) in
           let left : state .attempt .number < state .plan .attempts = rw (c .plan) (omega arith) in
-          by-test (fitsRoom p (h .last))
+          by-test (fits p (h .last))
           (λ r. opens true n some t
           (later-opens state (fine o) (dataOf o) (length (s .copy)) taken cl is-fine sound (none-is false n) (match-is false e) left (fits-is true r)
           ∙ ap (λ (x : Seen). sends (openedBy state true x)) look))
-          (λ r. large true r t
-          (later-large state (fine o) (dataOf o) (length (s .copy)) taken cl is-fine sound (none-is false n) (match-is false e) left (fits-is false r)))
+          (λ r. short true r t
+          (later-short state (fine o) (dataOf o) (length (s .copy)) taken cl is-fine sound (none-is false n) (match-is false e) left (fits-is false r)))
 
       -- it is a match: generation and last blocks are the attempt's
       module _ (e : matches (state .attempt) h ≡ true) where

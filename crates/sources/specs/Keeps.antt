@@ -14,7 +14,7 @@ use Rattle.plans.specs.declared.Phase.{Phase}
 use Rattle.plans.specs.declared.Phase.the-variants.{First, Chunk, Ack}
 use Rattle.completions.specs.declared.Seen.{Seen}
 use Rattle.plans.specs.Phases.{closingBy}
-use Rattle.plans.specs.Plans.{areaLast, areaBytes, chunkBlocks, wordsBy, insideBy, fitsRoom}
+use Rattle.plans.specs.Plans.{areaLast, areaBytes, fits, chunkOf, chunkIn, chunkBlocks, insideBy, expectedBy, wordsBy}
 use Rattle.completions.specs.Completions.{seenOf, showsNone}
 use Rattle.sources.specs.Source.{Source, Done, forLent}
 
@@ -50,13 +50,13 @@ pub record Keeps (D : Source) (p : Plan) : Type 1 where
   -- a later header leaves the source as it is
   pub closing : (f : Phase) → closingBy f ≡ true → (l : D .Lent) (last : List ℕ) (d : D .State) → Good d → forLent (asks D p f l last d .answer) ≡ false
       → Header p (asks D p f l last d) (shows d) × (asks D p f l last d .source ≡ d)
-  -- and so does a chunk; if the area is still the one that it was planned for, it is served and brings that part of it
-  pub chunk : (at : ℕ) (l : D .Lent) (last : List ℕ) (d : D .State) → Good d → fitsRoom p last ≡ true → insideBy (Chunk at) (areaLast p last) ≡ true
+  -- and so does a chunk; if the area is still the one that it was planned for, it is served and brings that part of it, after the blocks in front
+  pub chunk : (at : ℕ) (l : D .Lent) (last : List ℕ) (d : D .State) → Good d → fits p last ≡ true → insideBy (Chunk at) p last ≡ true
       → forLent (asks D p (Chunk at) l last d .answer) ≡ false
       → (asks D p (Chunk at) l last d .source ≡ d)
-      × (asks D p (Chunk at) l last d .answer ≡ success → length (asks D p (Chunk at) l last d .bytes) ≡ block * chunkBlocks (p .chunk) at (areaLast p last))
+      × (asks D p (Chunk at) l last d .answer ≡ success → length (asks D p (Chunk at) l last d .bytes) ≡ expectedBy (Chunk at) p last)
       × (shows d .last ≡ last
       → (asks D p (Chunk at) l last d .answer ≡ success)
-      × (asks D p (Chunk at) l last d .bytes ≡ take (block * chunkBlocks (p .chunk) at (areaLast p last)) (drop (block * (at - 1)) (area d))))
+      × (chunkIn p (asks D p (Chunk at) l last d .bytes) ≡ take (block * chunkBlocks (chunkOf p) at (areaLast p last)) (drop (block * (at - 1)) (area d))))
   -- the acknowledgement brings the header; nothing is asked of the source after it
   pub ack : (l : D .Lent) (last : List ℕ) (d : D .State) → Good d → forLent (asks D p Ack l last d .answer) ≡ false → Header p (asks D p Ack l last d) (shows d)

@@ -9,9 +9,9 @@ use lib.Dec.{eqb}
 use Rattle.copies.specs.Parts.{zeros}
 use Rattle.pages.specs.Pages.{most4}
 use Rattle.plans.specs.declared.Plan.{Plan}
-use Rattle.plans.specs.Plans.{areaBytes}
+use Rattle.plans.specs.Plans.{areaLast, areaBytes, reach}
 use Rattle.completions.specs.Completions.{showsNone}
-use Rattle.judgement.specs.declared.Ending.the-variants.{Success, NoRoom, Withdrawn, Nothing}
+use Rattle.judgement.specs.declared.Ending.the-variants.{Success, OutOfReach, NoRoom, Withdrawn, Nothing}
 use Rattle.collection.specs.declared.Finish.{Finish}
 use Rattle.collection.specs.declared.Next.the-variants.{End as Ends, Refuse}
 use Rattle.runs.specs.Run.{acknowledging, mostChunks}
@@ -34,14 +34,17 @@ mostCommands p k chunks = 1 + (k + 1) * (chunks + 1) + acknowledging p
 module _ (D : Source) (p : Plan) (K : Keeps D p) where
   -- how a run may end, d being the source at the last header that was judged:
   -- with success, and then the copy is the wanted area of d and zeros after it, and a newer capture is said to be unread just where the generation shows it;
-  -- for want of room, since the area of d is larger than the copy;
+  -- for want of room, since the area of d, which is in reach, is larger than the copy;
+  -- out of reach, since there is no extended data, and the area of d is past block 31;
   -- withdrawn, since 08h of d has no data and the first header was another one;
   -- with nothing, since 08h of d has no data and no other command was sent.
   -- All but success leave zeros.
   pub data Told (e : Finish) (s : Stand D) : Type 0 where
     succeeded : e .ending ≡ Success (noticed (s .counts .captures)) → s .copy ≡ K .area (s .checked) ++ zeros (p .room - length (K .area (s .checked)))
         → showsNone p (K .shows (s .checked)) ≡ false → Told e s
-    lacked : e .ending ≡ NoRoom → s .copy ≡ zeros (p .room) → p .room < areaBytes p (K .shows (s .checked) .last) → Told e s
+    lacked : e .ending ≡ NoRoom → s .copy ≡ zeros (p .room) → (p .caps .extended ≡ false → areaLast p (K .shows (s .checked) .last) ≤ reach)
+        → p .room < areaBytes p (K .shows (s .checked) .last) → Told e s
+    unreached : e .ending ≡ OutOfReach → s .copy ≡ zeros (p .room) → p .caps .extended ≡ false → reach < areaLast p (K .shows (s .checked) .last) → Told e s
     withdrew : e .ending ≡ Withdrawn → s .copy ≡ zeros (p .room) → showsNone p (K .shows (s .checked)) ≡ true → 2 ≤ length (s .sent) → Told e s
     empty : e .ending ≡ Nothing → s .copy ≡ zeros (p .room) → showsNone p (K .shows (s .checked)) ≡ true → length (s .sent) ≡ 1 → Told e s
 
@@ -52,8 +55,10 @@ module _ (D : Source) (p : Plan) (K : Keeps D p) where
     pub counted : s .collection .count ≡ length (s .sent)
     pub bounded : s .collection .count ≤ mostCommands p k (mostChunks p (s .headers))
     pub limited : s .collection .count ≤ mostCommands p k most4
+    -- without extended data, with C at 1
+    pub once : p .caps .extended ≡ false → s .collection .count ≤ mostCommands p k 1
     -- never 13, 14 or 15
     pub never : (n : ℕ) → s .said ≡ Refuse n → ⊥
-    -- every ending is one of the four, and says the count
+    -- every ending is one of the five, and says the count
     pub told : (e : Finish) → s .said ≡ Ends e → Told e s
     pub says : (e : Finish) → s .said ≡ Ends e → e .count ≡ length (s .sent)

@@ -66,7 +66,7 @@ module _ (D : Source) (p : Plan) (K : Keeps D p) where
       → Inv D p K (hears ours D s (D .command l (wordsBy f p (s .collection .attempt .last)) (s .source)))
   own-by First s l c e a g few more fair = absurd a
   own-by (Chunk at) s l c e a g few more fair =
-      let r = K .chunk at l (s .collection .attempt .last) (s .source) (a .opened .here) (rw (c .plan) at (c .house .room)) (rw (c .plan, e) at (c .house .inside)) fair in
+      let r = K .chunk at l (s .collection .attempt .last) (s .source) (a .opened .here) (rw (c .plan) at (c .house .area)) (rw (c .plan, e) at (c .house .inside)) fair in
       chunk-inv D p K s (D .command l (wordsBy (Chunk at) p (s .collection .attempt .last)) (s .source)) c at e a (r .0) (r .1) (r .2)
   own-by (Close false) s l c e a g few more fair = closes (Close false) refl refl s l c e (a .opened) (λ none live last. (refl, a .kept none live last)) (few refl) more fair
   own-by (Close true) s l c e a g few more fair =

@@ -78,9 +78,10 @@ fn byte(b: u8) {
     decimal(b as u64);
 }
 
-fn caps() -> Caps {
+// Extended data or none: without it a plan has no blocks a command.
+fn caps(chunk: u32) -> Caps {
     Caps {
-        extended: true,
+        extended: chunk != 0,
         telemetry: true,
         da4s: false,
         etdas: false,
@@ -97,7 +98,7 @@ fn plan(case: Case) -> Plan {
         chunk: case.chunk,
         attempts: case.attempts,
         room: 2048,
-        caps: caps(),
+        caps: caps(case.chunk),
     }
 }
 
@@ -108,7 +109,7 @@ fn fresh(case: Case) -> Record {
         hostscope: 1,
         controllerscope: 1,
     };
-    let mut r = records::fresh(caps(), identity);
+    let mut r = records::fresh(caps(case.chunk), identity);
     let mut host = r.host;
     let mut controller = r.controller;
     host.generation = std::num::wrapping_sub_u8(case.generation, 1);
@@ -325,7 +326,9 @@ fn sent(
     want: &mut [u8; 2048],
 ) -> Bench {
     let words = state.awaited();
-    let asked = words::read(true, words);
+    let plan = state.plan;
+    let caps = plan.caps;
+    let asked = words::read(caps.extended, words);
     let mut buf = [0u8; 2560];
     keep_area(asked, own, store, want);
     let x = send(own, store, [0; 4], b"", words, &mut buf);
@@ -479,6 +482,30 @@ fn calm_runs() {
     run(b"08h never captured:", c);
 }
 
+// Without extended data: c1 reads the header and all blocks.
+fn old_runs() {
+    run(b"old drive, 07h, 4 blocks:", calm(pages::HOST, 4, 0, 1));
+    run(b"old drive, 07h, no block:", calm(pages::HOST, 0, 0, 1));
+    run(
+        b"old drive, 08h, 3 blocks:",
+        calm(pages::CONTROLLER, 3, 0, 1),
+    );
+    let mut c = calm(pages::HOST, 1, 0, 2);
+    c.captured = 1;
+    c.then = 4;
+    run(b"old drive, 07h grows from 1 to 4:", c);
+    c.then = 5;
+    run(b"old drive, 07h grows from 1 to 5, room for 4:", c);
+    let mut d = calm(pages::HOST, 2, 0, 2);
+    d.dropped = 1;
+    run(b"old drive, 07h dropped before its only chunk:", d);
+    let mut e = calm(pages::CONTROLLER, 2, 0, 2);
+    e.cleared = 1;
+    run(b"old drive, 08h cleared after the header:", e);
+    e.captured = 2;
+    run(b"old drive, 08h cleared and captured again:", e);
+}
+
 fn host_runs() {
     host(b"07h grows from 1 to 5, room for 4:", 0, 1, 1, 5);
     host(b"07h grows from 1 to 4:", 0, 1, 1, 4);
@@ -601,5 +628,6 @@ fn main() {
     controller_runs();
     late_runs();
     crowded_runs();
+    old_runs();
     many_runs();
 }

@@ -10,6 +10,8 @@ use plans::Phase;
 use plans::Plan;
 ghost use mathlib.Core.Path.{_≡_};
 ghost use Prim.Native.Nat.{_-_, _*_};
+ghost use lib.ListN.{drop};
+ghost use Rattle.copies.specs.Parts.{putAt};
 ghost use Rattle.pages.specs.Pages.{block};
 ghost use Rattle.turns.specs.Refusals.{mostCount, firstRefusal, refusalBy};
 ghost use Rattle.turns.specs.Turns.{openingOf, followingOf, leftBy, turned, turnOf};
@@ -18,10 +20,10 @@ ghost use Rattle.turns.specs.Touched.{zerosFrom, touched};
 // The most commands of one attempt: the chunks of the largest area, a block each, and the closing header.
 const MOST_OF_ATTEMPT: u64 = 1048577;
 
-// What happens to the copy: nothing, the data goes to a place, zeros from a place on, zeros everywhere.
+// What happens to the copy: nothing, the data from a byte of it on goes to a place, zeros from a place on, zeros everywhere.
 pub enum Touch {
     Keep,
-    Place(usize),
+    Place(usize, usize),
     Tail(usize),
     All,
 }
@@ -80,7 +82,7 @@ pub fn refusal(plan: Plan, phase: Phase, attempt: Attempt, count: u64, offered: 
     first_refusal(plans::ended(phase), valid, fits)
 }
 
-// Where the chunk at a block goes: its offset less the header.
+// Where the chunk at a block goes: its block less the header.
 fn place_of(at: u32) -> usize
     ensures { λ r. ⌜ r ≡ block * (at - 1) ⌝ }
 {
@@ -97,11 +99,11 @@ fn opening(p: Plan, last: [u32; 4]) -> Phase
     plans::phase_after(0, 1, plans::area_last(p, last))
 }
 
-// What follows the good chunk at a block: one c blocks on, or the closing header.
+// What follows the good chunk at a block: one a chunk's blocks on, or the closing header.
 fn following(p: Plan, last: [u32; 4], at: u32) -> Phase
     ensures { λ r. ⌜ r ≡ followingOf p last at ⌝ }
 {
-    plans::phase_after(at, p.chunk, plans::area_last(p, last))
+    plans::phase_after(at, plans::chunk_of(p), plans::area_last(p, last))
 }
 
 // Success leaves what was collected and zeros after it, every other ending zeros.
@@ -145,7 +147,7 @@ pub fn turn_of(p: Plan, a: Attempt, h: Seen, m: Move) -> Turn
             false,
             g,
             held,
-            Touch::Place(place_of(at)),
+            Touch::Place(pages::in_bytes(plans::lead_of(p)), place_of(at)),
         ),
         Move::Skip => turn_to(Phase::Close(true), false, g, held, Touch::Keep),
         Move::Acknowledge => turn_to(Phase::Ack, false, g, held, Touch::Keep),
@@ -162,13 +164,22 @@ fn zeros_from(copy: &mut [u8], place: usize)
     }
 }
 
+// The data from a byte of it on goes to a place; where the data ends before that byte, the copy stays as it is.
+fn put_from(data: &[u8], from: usize, copy: &mut [u8], place: usize)
+    ensures { λ _. ⌜ now (copy .exit) ≡ putAt (now (copy .entry)) place (drop from (now («data» .entry))) ⌝ }
+{
+    if from <= data.len() {
+        copies::put(&data[from..], copy, place);
+    }
+}
+
 // What happens to the copy happens; no byte changes but those that it names.
 pub fn settle(touch: Touch, data: &[u8], copy: &mut [u8])
     ensures { λ _. ⌜ now (copy .exit) ≡ touched touch (now («data» .entry)) (now (copy .entry)) ⌝ }
 {
     match touch {
         Touch::Keep => (),
-        Touch::Place(place) => copies::put(data, copy, place),
+        Touch::Place(from, place) => put_from(data, from, copy, place),
         Touch::Tail(place) => zeros_from(copy, place),
         Touch::All => zeros_from(copy, 0),
     }

@@ -13,13 +13,13 @@ use Rattle.header.specs.Header.{headerOf, faultOf, noFields, checkOf}
 use Rattle.records.specs.Records.{identityOk, storeOk, controllerOk, agreesWith, hostFields, controllerFields, fieldsFor}
 use Rattle.serving.specs.Serving.{windowOf, pageBytes}
 use Rattle.verdicts.specs.Verdicts.{candidateOk, fieldBad, lastAfter, commandAnswer, captureAnswer}
-use Rattle.plans.specs.Plans.{chunkBlocks, setupAnswer, fitsRoom, withinBy, phaseAt, wordsBy}
+use Rattle.plans.specs.Plans.{chunkBlocks, setupAnswer, inReach, fitsRoom, areaAnswer, withinBy, phaseAt, wordsBy}
 use Rattle.plans.specs.declared.Plan.{Plan}
 use Rattle.plans.specs.declared.Phase.the-variants.{First}
 use Rattle.completions.specs.Plan.{answerTo, plannedBy, planOf}
 use Rattle.completions.specs.Completions.{lookBy, plannedSeen, seenOf, generationOf}
 use Rattle.judgement.specs.declared.Ending.{Ending}
-use Rattle.judgement.specs.declared.Ending.the-variants.{Success, UsedUp, BrokeItsWord}
+use Rattle.judgement.specs.declared.Ending.the-variants.{Success, OutOfReach, UsedUp, BrokeItsWord}
 use Rattle.judgement.specs.Judgement.{judgeBy, testsOf, firstOrder, matchOrder, laterOrder}
 use Rattle.turns.specs.Turns.{turnOf}
 use Rattle.turns.specs.Touched.{touched}
@@ -32,7 +32,7 @@ use Rattle.sources.specs.Source.{Collector, ours, Turn, Stand, happens, happen,
 use Rattle.demand3.specs.Bench.{Sent, Taken, Dropped, actOf, capturesOf, dropsOf, ownOf, controllerSource}
 use Rattle.demand3.specs.Shown.{wantedArea}
 use Rattle.demand3.specs.Demand3.{final}
-use Rattle.worked_runs.specs.Scene.{blockOf, drive, hostDrive, newer, created, createWords, lentOf, scenePlan, hostPlan, smallDrive, smallPlan, stale, quiet, atOnce, after}
+use Rattle.worked_runs.specs.Scene.{blockOf, drive, oldDrive, farDrive, hostDrive, newer, created, createWords, lentOf, scenePlan, oldPlan, hostPlan, smallDrive, smallPlan, stale, quiet, atOnce, after}
 use Rattle.worked_runs.specs.Lazy.{stopsWith, neverStops, readsOnce, comparesNothing, comparesGenerations, fakesTheRest, inventsItsCount}
 
 -- a run of a collector on 08h, with so many attempts, buffers of so many bytes and these turns
@@ -50,6 +50,21 @@ disturbed n = after 8 512 (Taken newer ∷ []) n
 -- a capture between the last check and the acknowledgement
 abbrev pub late : List (Turn (controllerSource 8))
 late = quiet 8 512 3 ++ atOnce 8 512 (Taken newer ∷ []) 0
+
+-- without extended data, with a capture between header and blocks together and the closing header, and three commands after those
+abbrev pub oldDisturbed : List (Turn (controllerSource 8))
+oldDisturbed = after 8 1536 (Taken newer ∷ []) 3
+
+abbrev pub oldRun : Stand (controllerSource 8)
+oldRun = final ours (oldPlan 2) (stale 1024) oldDrive (lentOf 1536) oldDisturbed
+
+-- without extended data, and with an area past block 31
+abbrev pub farRun : Stand (controllerSource 8)
+farRun = final ours (oldPlan 2) (stale 1024) farDrive (lentOf 512) []
+
+-- without extended data, a collector that always stops and says that the area is out of reach
+abbrev pub oldStopped : List (Turn (controllerSource 8)) → Stand (controllerSource 8)
+oldStopped ts = final (stopsWith OutOfReach) (oldPlan 2) (stale 1024) oldDrive (lentOf 1536) ts
 
 -- another host's create after the first chunk of 07h
 abbrev pub hostDisturbed : List (Turn (controllerSource 7))
@@ -102,6 +117,8 @@ pub record Computed : Type 0 where
   pub ours-undisturbed : Came (scenePlan 2) (runOf ours 2 512 undisturbed) (endsWith (Success false) 5) old old 0 0 5 2
   pub ours-disturbed : Came (scenePlan 2) (runOf ours 2 512 (disturbed 5)) (endsWith (Success false) 8) new new 1 0 8 2
   pub ours-host : Came hostPlan hostRun (endsWith (Success false) 9) (replicate 2560 3 ++ zeros 512) (replicate 2560 3) 1 0 9 3
+  pub ours-old : Came (oldPlan 2) oldRun (endsWith (Success false) 6) new new 1 0 6 1
+  pub ours-far : (farRun .said ≡ endsWith OutOfReach 1) × (farRun .copy ≡ zeros 1024) × (farRun .counts .changes ≡ 0) × (farRun .counts .lentRefusals ≡ 0)
   pub ours-late : Came (scenePlan 2) (runOf ours 2 512 late) (endsWith (Success true) 5) old old 1 0 5 2
   pub late-most : runOf ours 2 512 late .counts .mostInAttempt ≡ 0
   -- ours, with a drop on 07h: before the first chunk, a block a command (the second chunk is refused) and two; after the last chunk; where no block was
@@ -114,6 +131,7 @@ pub record Computed : Type 0 where
   pub dropped-empty : Came (smallPlan 3 1 2) (smallRun ours 3 1 2 (zeros 4) (dropFirst 5)) (endsWith (Success false) 2) (zeros 1024) [] 1 0 2 0
   -- lazy collectors
   pub stopped : (e : Ending) → Came (scenePlan 2) (runOf (stopsWith e) 2 512 undisturbed) (endsWith e 1) (zeros 1024) old 0 0 1 2
+  pub stopped-old : Came (oldPlan 2) (oldStopped []) (endsWith OutOfReach 1) (zeros 1024) old 0 0 1 1
   pub stopped-live : (e : Ending) → runOf (stopsWith e) 2 512 undisturbed .checked .own .controller .tcda ≡ 1
   pub read-once : Came (scenePlan 2) (runOf readsOnce 2 512 (disturbed 5)) (endsWith (Success false) 3) mixed old 1 0 3 2
   pub compared-nothing : Came (scenePlan 2) (runOf comparesNothing 2 512 (disturbed 5)) (endsWith (Success false) 5) mixed new 1 0 5 2
@@ -127,11 +145,13 @@ pub record Computed : Type 0 where
   pub short : Came (scenePlan 2) (runOf ours 2 511 []) (endsWith BrokeItsWord 1) (zeros 1024) old 0 1 1 0
 
 pub computed : Computed
-unfolding chunkBlocks dropOf captureOf captureAnswered controllerCaptured captureAnswer final collected run happen happens hears begun setupOf setupAnswer holds stepOf decideOf refusalOf validState withinBy fitsRoom completionFits expectedOf lookOf lookBy plannedSeen planOf plannedBy answerTo seenOf checkOf faultOf lastOk sameLast generationOf moveOf judgeBy testsOf firstOrder matchOrder laterOrder turnBy turnOf moved awaitedOf wordsBy builtOf taken phaseAt copyAfter touched putAt commandOf answered commandAnswer agreesWith storeOk controllerOk identityOk greatestOf fieldBad lastAfter candidateOk sizeOf blocksOf topOf trimmedTo trimOf before afterwards sentOf pageOf pageBytes windowOf headerOf hostFields controllerFields fieldsFor hostCaptured ownOf actOf capturesOf dropsOf quiet wantedArea mostChunks noFields
+unfolding chunkBlocks dropOf captureOf captureAnswered controllerCaptured captureAnswer final collected run happen happens hears begun setupOf setupAnswer holds stepOf decideOf refusalOf validState withinBy inReach fitsRoom areaAnswer completionFits expectedOf lookOf lookBy plannedSeen planOf plannedBy answerTo seenOf checkOf faultOf lastOk sameLast generationOf moveOf judgeBy testsOf firstOrder matchOrder laterOrder turnBy turnOf moved awaitedOf wordsBy builtOf taken phaseAt copyAfter touched putAt commandOf answered commandAnswer agreesWith storeOk controllerOk identityOk greatestOf fieldBad lastAfter candidateOk sizeOf blocksOf topOf trimmedTo trimOf before afterwards sentOf pageOf pageBytes windowOf headerOf hostFields controllerFields fieldsFor hostCaptured ownOf actOf capturesOf dropsOf quiet wantedArea mostChunks noFields
 computed = record {
   ours-undisturbed = record { said-is = refl; copy-is = refl; area-is = refl; changes-are = refl; refused-are = refl; sent-are = refl; chunks-are = refl };
   ours-disturbed = record { said-is = refl; copy-is = refl; area-is = refl; changes-are = refl; refused-are = refl; sent-are = refl; chunks-are = refl };
   ours-host = record { said-is = refl; copy-is = refl; area-is = refl; changes-are = refl; refused-are = refl; sent-are = refl; chunks-are = refl };
+  ours-old = record { said-is = refl; copy-is = refl; area-is = refl; changes-are = refl; refused-are = refl; sent-are = refl; chunks-are = refl };
+  ours-far = (refl, refl, refl, refl);
   ours-late = record { said-is = refl; copy-is = refl; area-is = refl; changes-are = refl; refused-are = refl; sent-are = refl; chunks-are = refl };
   late-most = refl;
   dropped-early = record { said-is = refl; copy-is = refl; area-is = refl; changes-are = refl; refused-are = refl; sent-are = refl; chunks-are = refl };
@@ -141,6 +161,7 @@ computed = record {
   dropped-unwanted = record { said-is = refl; copy-is = refl; area-is = refl; changes-are = refl; refused-are = refl; sent-are = refl; chunks-are = refl };
   dropped-empty = record { said-is = refl; copy-is = refl; area-is = refl; changes-are = refl; refused-are = refl; sent-are = refl; chunks-are = refl };
   stopped = λ e. record { said-is = refl; copy-is = refl; area-is = refl; changes-are = refl; refused-are = refl; sent-are = refl; chunks-are = refl };
+  stopped-old = record { said-is = refl; copy-is = refl; area-is = refl; changes-are = refl; refused-are = refl; sent-are = refl; chunks-are = refl };
   stopped-live = λ e. refl;
   read-once = record { said-is = refl; copy-is = refl; area-is = refl; changes-are = refl; refused-are = refl; sent-are = refl; chunks-are = refl };
   compared-nothing = record { said-is = refl; copy-is = refl; area-is = refl; changes-are = refl; refused-are = refl; sent-are = refl; chunks-are = refl };

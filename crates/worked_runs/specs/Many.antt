@@ -16,7 +16,7 @@ use Rattle.header.specs.Header.{headerOf, faultOf, checkOf}
 use Rattle.records.specs.Records.{identityOk, storeOk, controllerOk, agreesWith, hostFields, controllerFields, fieldsFor}
 use Rattle.serving.specs.Serving.{windowOf, pageBytes}
 use Rattle.verdicts.specs.Verdicts.{candidateOk, fieldBad, lastAfter, commandAnswer}
-use Rattle.plans.specs.Plans.{chunkBlocks, setupAnswer, fitsRoom, withinBy, phaseAt, wordsBy}
+use Rattle.plans.specs.Plans.{chunkBlocks, setupAnswer, inReach, fitsRoom, areaAnswer, withinBy, phaseAt, wordsBy}
 use Rattle.completions.specs.Plan.{answerTo, plannedBy, planOf}
 use Rattle.completions.specs.Completions.{lookBy, plannedSeen, seenOf, generationOf}
 use Rattle.judgement.specs.declared.Ending.the-variants.{Success}
@@ -153,7 +153,7 @@ record Parts : Type 0 where
   pub ended-most : ends .counts .mostInAttempt ≡ 150
 
 parts : Parts
-unfolding chunkBlocks final collected run happen happens hears begun setupOf setupAnswer holds stepOf decideOf refusalOf validState withinBy fitsRoom completionFits expectedOf lookOf lookBy plannedSeen planOf plannedBy answerTo seenOf checkOf faultOf lastOk sameLast generationOf moveOf judgeBy testsOf firstOrder matchOrder laterOrder turnBy turnOf moved awaitedOf wordsBy builtOf taken phaseAt copyAfter touched putAt commandOf answered commandAnswer agreesWith storeOk controllerOk identityOk greatestOf fieldBad lastAfter candidateOk sizeOf blocksOf topOf trimmedTo trimOf before afterwards sentOf pageOf pageBytes windowOf headerOf hostFields controllerFields fieldsFor hostCaptured ownOf actOf capturesOf dropsOf quiet wantedArea mostChunks
+unfolding chunkBlocks final collected run happen happens hears begun setupOf setupAnswer holds stepOf decideOf refusalOf validState withinBy inReach fitsRoom areaAnswer completionFits expectedOf lookOf lookBy plannedSeen planOf plannedBy answerTo seenOf checkOf faultOf lastOk sameLast generationOf moveOf judgeBy testsOf firstOrder matchOrder laterOrder turnBy turnOf moved awaitedOf wordsBy builtOf taken phaseAt copyAfter touched putAt commandOf answered commandAnswer agreesWith storeOk controllerOk identityOk greatestOf fieldBad lastAfter candidateOk sizeOf blocksOf topOf trimmedTo trimOf before afterwards sentOf pageOf pageBytes windowOf headerOf hostFields controllerFields fieldsFor hostCaptured ownOf actOf capturesOf dropsOf quiet wantedArea mostChunks
 parts = record {
   begun = refl;
   begun-awaits = refl;

@@ -7,7 +7,7 @@ use mathlib.Core.List.{List, [], _++_}
 use mathlib.Core.Bool.{Bool, true, false}
 use native.Mathlib.Omega.{arith}
 use lib.ListN.{length, getD, replicate}
-use Rattle.choices.specs.Tests.{holds}
+use Rattle.choices.specs.Tests.{holds, clash}
 use Rattle.copies.specs.Parts.{zeros}
 use Rattle.answers.specs.Answers.{success}
 use Rattle.pages.specs.Pages.{lastOk, greatestOf}
@@ -16,7 +16,7 @@ use Rattle.records.specs.Back.{Typed, agreed-typed}
 use Rattle.plans.specs.declared.Plan.{Plan}
 use Rattle.plans.specs.Plans.{setupAnswer}
 use Rattle.judgement.specs.declared.Ending.{Ending}
-use Rattle.judgement.specs.declared.Ending.the-variants.{Success, UsedUp, BrokeItsWord}
+use Rattle.judgement.specs.declared.Ending.the-variants.{Success, UsedUp, BrokeItsWord, OutOfReach}
 use Rattle.collection.specs.declared.Finish.{Finish}
 use Rattle.collection.specs.declared.Next.{Next}
 use Rattle.collection.specs.declared.Next.the-variants.{Send, End as Ends}
@@ -26,10 +26,10 @@ use Rattle.sources.specs.Source.{Collector, ours, Turn}
 use Rattle.sources.specs.Promise.{mostCommands}
 use Rattle.demand3.specs.Bench.{controllerSource}
 use Rattle.demand3.specs.Shown.{showsFor, area-long}
-use Rattle.demand3.specs.Demand3.{Asked, TrueEnding, succeeded-by, room-short, gone, never-there, Demand3, final}
-use Rattle.worked_runs.specs.Scene.{drive, hostDrive, smallDrive, lentOf, scenePlan, hostPlan, smallPlan, stale}
+use Rattle.demand3.specs.Demand3.{Asked, TrueEnding, succeeded-by, room-short, past-reach, gone, never-there, Demand3, final}
+use Rattle.worked_runs.specs.Scene.{drive, hostDrive, smallDrive, lentOf, scenePlan, hostPlan, smallPlan, stale, oldDrive, oldPlan, farDrive}
 use Rattle.worked_runs.specs.Lazy.{stopsWith, neverStops, readsOnce, comparesNothing, comparesGenerations, fakesTheRest, inventsItsCount}
-use Rattle.worked_runs.specs.Computed.{runOf, undisturbed, disturbed, late, hostDisturbed, hostRun, smallRun, two, dropFirst, dropLast, Came, endsWith, old, new, mixed, computed}
+use Rattle.worked_runs.specs.Computed.{runOf, undisturbed, disturbed, late, hostDisturbed, hostRun, smallRun, two, dropFirst, dropLast, Came, endsWith, old, new, mixed, computed, oldDisturbed, oldRun, farRun, oldStopped}
 use Rattle.worked_runs.specs.Many.{soak, round, spread, stitched, round-came, round-most, spread-came, spread-most}
 
 -- ---- what is asked for
@@ -62,6 +62,35 @@ pub ours-disturbed : Meant ours (disturbed 5) 1
 ours-disturbed =
     let x = computed .ours-disturbed in
     (meant ours (disturbed 5) 1 (omega arith) x, x .said-is, x .copy-is, ap (mostCommands (scenePlan 2) 1) (x .chunks-are))
+
+old-typed : Typed (oldDrive .own)
+unfolding agreesWith storeOk controllerOk identityOk greatestOf lastOk holds
+old-typed = agreed-typed (oldDrive .own) 0 1024 refl (record { host-four = refl; host-reason = refl; controller-four = refl; controller-reason = refl }) (omega arith) (omega arith)
+
+-- On 08h without extended data, with a capture before the closing header: six commands, as many as k = 1 and C = 1 allow.
+pub ours-old : Asked ours (oldPlan 2) (stale 1024) oldDrive (lentOf 1536) oldDisturbed 1
+    × (oldRun .said ≡ endsWith (Success false) 6)
+    × (oldRun .copy ≡ new)
+    × (mostCommands (oldPlan 2) 1 1 ≡ 6)
+unfolding setupAnswer holds
+ours-old =
+    let x = computed .ours-old in (
+      record { taken = refl; caps = refl; room = refl; typed = old-typed; attempts = omega arith; changes = omega (arith, x .changes-are); spared = x .refused-are },
+      x .said-is,
+      x .copy-is,
+      refl,
+    )
+
+far-typed : Typed (farDrive .own)
+unfolding agreesWith storeOk controllerOk identityOk greatestOf lastOk holds
+far-typed = agreed-typed (farDrive .own) 0 16384 refl (record { host-four = refl; host-reason = refl; controller-four = refl; controller-reason = refl }) (omega arith) (omega arith)
+
+-- On 08h without extended data, 32 blocks: 19 at the first header, and a copy of zeros.
+pub ours-far : Asked ours (oldPlan 2) (stale 1024) farDrive (lentOf 512) [] 0 × (farRun .said ≡ endsWith OutOfReach 1) × (farRun .copy ≡ zeros 1024)
+unfolding setupAnswer holds
+ours-far =
+    let x = computed .ours-far in
+    (record { taken = refl; caps = refl; room = refl; typed = far-typed; attempts = omega arith; changes = omega (arith, x .2); spared = x .3 }, x .0, x .1)
 
 -- On 08h, with a capture after the last check: the copy is the page before it, a newer capture is told, and it is none of the captures in an attempt.
 pub ours-late : Meant ours late 1
@@ -133,7 +162,8 @@ wrong-copy c p w bytes ts k i n {t = t} x differs newer d = by (d .ended (record
   where
     by : TrueEnding c p (stale (p .room)) w (lentOf bytes) ts newer (record { ending = Success t; count = n }) (final c p (stale (p .room)) w (lentOf bytes) ts .checked) → ⊥
     by (succeeded-by a q l) = differs (ap (λ (y : List ℕ). getD y i 0) (sym (x .copy-is) ∙ q ∙ ap (λ (y : List ℕ). y ++ zeros (p .room - length y)) (x .area-is)))
-    by (room-short a q l) = absurd (omega arith)
+    by (room-short a q n l) = absurd (omega arith)
+    by (past-reach a q o r) = absurd (omega arith)
     by (gone a q l m o) = absurd (omega arith)
     by (never-there a q l m o) = absurd (omega arith)
 
@@ -149,11 +179,32 @@ stops-refuted e =
     by newer x (succeeded-by a q l) =
         let z : _≡_ {A = ℕ} 0 5 = ap (λ (y : List ℕ). getD y 0 0) (sym (x .copy-is) ∙ q ∙ ap (λ (y : List ℕ). y ++ zeros (1024 - length y)) (x .area-is)) in
         absurd (omega arith)
-    by newer x (room-short a q l) =
+    by newer x (room-short a q near l) =
         let n = sym (area-long (scenePlan 2) (runOf (stopsWith e) 2 512 undisturbed .checked)) ∙ ap length (x .area-is) in
         absurd (omega (arith, l, n))
+    by newer x (past-reach a q o r) = clash {t = true} refl o
     by newer x (gone a q l m o) = absurd (omega (arith, o, x .sent-are))
     by newer x (never-there a q l m o) = absurd (omega (arith, m, computed .stopped-live e))
+
+-- One that says without extended data that the area is out of reach, where it is not.
+pub stops-old-refuted : Asked (stopsWith OutOfReach) (oldPlan 2) (stale 1024) oldDrive (lentOf 1536) [] 0
+    × ((newer : Bool) → Demand3 (stopsWith OutOfReach) (oldPlan 2) (stale 1024) oldDrive (lentOf 1536) [] 0 newer → ⊥)
+unfolding setupAnswer holds showsFor
+stops-old-refuted =
+    let x = computed .stopped-old in (
+      record { taken = refl; caps = refl; room = refl; typed = old-typed; attempts = omega arith; changes = omega (arith, x .changes-are); spared = x .refused-are },
+      λ newer d. by newer x (d .ended (record { ending = OutOfReach; count = 1 }) (x .said-is)),
+    )
+  where
+    by : (newer : Bool) → Came (oldPlan 2) (oldStopped []) (endsWith OutOfReach 1) (zeros 1024) old 0 0 1 1
+        → TrueEnding (stopsWith OutOfReach) (oldPlan 2) (stale 1024) oldDrive (lentOf 1536) [] newer (record { ending = OutOfReach; count = 1 }) (oldStopped [] .checked) → ⊥
+    by newer x (succeeded-by a q l) = absurd (omega arith)
+    by newer x (room-short a q n l) = absurd (omega arith)
+    by newer x (past-reach a q o r) =
+        let n = sym (area-long (oldPlan 2) (oldStopped [] .checked)) ∙ ap length (x .area-is) in
+        absurd (omega (arith, r, n))
+    by newer x (gone a q l m o) = absurd (omega arith)
+    by newer x (never-there a q l m o) = absurd (omega arith)
 
 -- One that never stops.
 pub never-stops-refuted : Meant neverStops undisturbed 0 × Breaks neverStops undisturbed 0

@@ -19,14 +19,33 @@ blockOf b = replicate 512 b
 abbrev pub caps : Caps
 caps = record { extended = true; telemetry = true; da4s = false; etdas = false; mcdas = false }
 
+-- without extended data
+abbrev pub oldCaps : Caps
+oldCaps = record { extended = false; telemetry = true; da4s = false; etdas = false; mcdas = false }
+
 -- 08h has two blocks, of fives and of sixes, and its generation is 255; 07h has none
-abbrev pub drive : World
-drive = world (record {
-  caps = caps;
+abbrev pub driveOf : Caps → World
+driveOf able = world (record {
+  caps = able;
   identity = record { oui = 0; hostscope = 1; controllerscope = 1 };
   host = record { last = zeros 4; generation = 0; reason = zeros 128 };
   controller = record { last = 2 ∷ 2 ∷ 2 ∷ 0 ∷ []; generation = 255; tcda = 1; notice = true; reason = zeros 128 };
 }) [] (blockOf 5 ++ blockOf 6)
+
+abbrev pub drive : World
+drive = driveOf caps
+
+abbrev pub oldDrive : World
+oldDrive = driveOf oldCaps
+
+-- without extended data, and 08h has 32 blocks, of fives
+abbrev pub farDrive : World
+farDrive = world (record {
+  caps = oldCaps;
+  identity = record { oui = 0; hostscope = 1; controllerscope = 1 };
+  host = record { last = zeros 4; generation = 0; reason = zeros 128 };
+  controller = record { last = 32 ∷ 32 ∷ 32 ∷ 0 ∷ []; generation = 255; tcda = 1; notice = true; reason = zeros 128 };
+}) [] (replicate 16384 5)
 
 -- 07h has five blocks, of ones, and 08h none
 abbrev pub hostDrive : World
@@ -69,6 +88,10 @@ lentOf bytes = record { candidate = newer; buf = zeros bytes }
 -- area 1 of 08h, a block a command, into a copy of two blocks
 abbrev pub scenePlan : ℕ → Plan
 scenePlan attempts = record { page = 8; create = false; area = 1; chunk = 1; attempts = attempts; room = 1024; caps = caps }
+
+-- the same without extended data
+abbrev pub oldPlan : ℕ → Plan
+oldPlan attempts = record { page = 8; create = false; area = 1; chunk = 0; attempts = attempts; room = 1024; caps = oldCaps }
 
 -- area 1 of 07h, two blocks a command, into a copy of six blocks
 abbrev pub hostPlan : Plan

@@ -14,15 +14,11 @@ pick-u8-requires-2 c κs = search needs
 pick-u8-requires-3 : tie.Need-pick-u8-requires-3
 pick-u8-requires-3 c κs = search needs
 
-pick-u8-requires-4 : tie.Need-pick-u8-requires-4
-pick-u8-requires-4 c κs = search needs
-
 returns : tie.Need-returns
 returns c =
-    c .pick-u84 .ensures
-    ∙ rw (c .before .pick-u83 .ensures, c .before .before .pick-u82 .ensures, c .before .before .before .pick-u8 .ensures)
+    c .pick-u83 .ensures ∙ rw (c .before .pick-u82 .ensures, c .before .before .pick-u8 .ensures)
 
 pub plan-answer-spec : {M : Type 1} → statement M
 plan-answer-spec =
     tie.close
-    (tie.spec pick-u8-requires pick-u8-requires-2 pick-u8-requires-3 pick-u8-requires-4 returns)
+    (tie.spec pick-u8-requires pick-u8-requires-2 pick-u8-requires-3 returns)

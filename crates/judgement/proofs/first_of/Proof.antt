@@ -22,7 +22,11 @@ returns-4 c = rw (c .before .before .before .if1 .left, c .before .before .if2 .
 
 returns-5 : tie.Need-returns-5
 unfolding firstOrder
-returns-5 c = rw (c .before .before .before .if1 .left, c .before .before .if2 .left, c .before .if3 .left, c .if4 .left)
+returns-5 c = rw (c .before .before .before .before .if1 .left, c .before .before .before .if2 .left, c .before .before .if3 .left, c .before .if4 .left, c .if5 .taken)
+
+returns-6 : tie.Need-returns-6
+unfolding firstOrder
+returns-6 c = rw (c .before .before .before .before .if1 .left, c .before .before .before .if2 .left, c .before .before .if3 .left, c .before .if4 .left, c .if5 .left)
 
 pub first-of-spec : {M : Type 1} → statement M
-first-of-spec = tie.close (tie.spec returns returns-2 returns-3 returns-4 returns-5)
+first-of-spec = tie.close (tie.spec returns returns-2 returns-3 returns-4 returns-5 returns-6)

@@ -26,7 +26,15 @@ returns-5 c = rw (c .before .before .before .before .before .if1 .left, c .befor
 
 returns-6 : tie.Need-returns-6
 unfolding matchOrder
-returns-6 c = rw (c .before .before .before .before .before .if1 .left, c .before .before .before .if2 .left, c .before .before .if3 .left, c .before .if4 .left, c .if5 .left)
+returns-6 c =
+    let b = c .before in
+    rw (b .before .before .before .before .before .if1 .left, b .before .before .before .if2 .left, b .before .before .if3 .left, b .before .if4 .left, b .if5 .left, c .if6 .taken)
+
+returns-7 : tie.Need-returns-7
+unfolding matchOrder
+returns-7 c =
+    let b = c .before in
+    rw (b .before .before .before .before .before .if1 .left, b .before .before .before .if2 .left, b .before .before .if3 .left, b .before .if4 .left, b .if5 .left, c .if6 .left)
 
 pub match-of-spec : {M : Type 1} → statement M
-match-of-spec = tie.close (tie.spec returns returns-2 returns-3 returns-4 returns-5 returns-6)
+match-of-spec = tie.close (tie.spec returns returns-2 returns-3 returns-4 returns-5 returns-6 returns-7)

@@ -8,8 +8,8 @@ use Rattle.judgement.proofs.tests_of.Tie as tie
 faultless-requires : tie.Need-faultless-requires
 faultless-requires c κs = search needs
 
-fits-room-requires : tie.Need-fits-room-requires
-fits-room-requires c κs = search needs
+area-answer-requires : tie.Need-area-answer-requires
+area-answer-requires c κs = search needs
 
 same-last-requires : tie.Need-same-last-requires
 same-last-requires c κs = search needs
@@ -18,9 +18,9 @@ returns : tie.Need-returns
 unfolding testsOf
 returns c =
     let same = c .before .before in
-    let fits = same .before in
-    rw (same .same-last .ensures, fits .fits-room .ensures, fits .before .before .faultless .ensures)
+    let area = same .before in
+    rw (same .same-last .ensures, area .area-answer .ensures, area .before .before .faultless .ensures)
 
 pub tests-of-spec : {M : Type 1} → statement M
 tests-of-spec =
-    tie.close (tie.spec faultless-requires fits-room-requires same-last-requires returns)
+    tie.close (tie.spec faultless-requires area-answer-requires same-last-requires returns)

@@ -5,9 +5,6 @@ use borrow.Author.Needs.{needs}
 use Rattle.plans.proofs.asks_for.Statement.{statement}
 use Rattle.plans.proofs.asks_for.Tie as tie
 
-area-last-requires : tie.Need-area-last-requires
-area-last-requires c κs = search needs
-
 enum-told : tie.Need-enum-told
 enum-told c = search needs
 
@@ -20,62 +17,57 @@ asking-requires c κs = search needs
 enum-known-phase : tie.Need-enum-known-phase
 enum-known-phase c = search needs
 
-chunk-blocks-requires : tie.Need-chunk-blocks-requires
-chunk-blocks-requires c κs = search needs
-
-asking-requires-2 : tie.Need-asking-requires-2
-asking-requires-2 c κs = search needs
+asking-chunk-requires : tie.Need-asking-chunk-requires
+asking-chunk-requires c κs = search needs
 
 enum-told-2 : tie.Need-enum-told-2
 enum-told-2 c = search needs
 
-asking-requires-3 : tie.Need-asking-requires-3
-asking-requires-3 c κs = search needs
+asking-requires-2 : tie.Need-asking-requires-2
+asking-requires-2 c κs = search needs
 
 enum-told-3 : tie.Need-enum-told-3
 enum-told-3 c = search needs
 
-asking-requires-4 : tie.Need-asking-requires-4
-asking-requires-4 c κs = search needs
+asking-requires-3 : tie.Need-asking-requires-3
+asking-requires-3 c κs = search needs
 
 enum-told-4 : tie.Need-enum-told-4
 enum-told-4 c = search needs
 
-asking-requires-5 : tie.Need-asking-requires-5
-asking-requires-5 c κs = search needs
+asking-requires-4 : tie.Need-asking-requires-4
+asking-requires-4 c κs = search needs
 
 returns : tie.Need-returns
 returns c = c .asking .ensures ∙ rw (c .before .mcda .ensures, c .before .before .enum-told .given .1)
 
 returns-2 : tie.Need-returns-2
-returns-2 c = c .asking2 .ensures ∙ rw (c .before .chunk-blocks .ensures, c .before .before .before .before .before .area-last .ensures, c .before .before .before .phase .given .1)
+returns-2 c = c .asking-chunk .ensures ∙ rw (c .before .before .phase .given .1)
 
 returns-3 : tie.Need-returns-3
-returns-3 c = c .asking3 .ensures ∙ rw (c .before .enum-told2 .given .1)
+returns-3 c = c .asking2 .ensures ∙ rw (c .before .enum-told2 .given .1)
 
 returns-4 : tie.Need-returns-4
-returns-4 c = c .asking4 .ensures ∙ rw (c .before .enum-told3 .given .1)
+returns-4 c = c .asking3 .ensures ∙ rw (c .before .enum-told3 .given .1)
 
 returns-5 : tie.Need-returns-5
-returns-5 c = c .asking5 .ensures ∙ rw (c .before .enum-told4 .given .1)
+returns-5 c = c .asking4 .ensures ∙ rw (c .before .enum-told4 .given .1)
 
 pub asks-for-spec : {M : Type 1} → statement M
 asks-for-spec =
     tie.close
     (tie.spec
-    area-last-requires
     enum-told
     mcda-requires
     asking-requires
     enum-known-phase
-    chunk-blocks-requires
-    asking-requires-2
+    asking-chunk-requires
     enum-told-2
-    asking-requires-3
+    asking-requires-2
     enum-told-3
-    asking-requires-4
+    asking-requires-3
     enum-told-4
-    asking-requires-5
+    asking-requires-4
     returns
     returns-2
     returns-3

@@ -12,8 +12,8 @@ enum-told c = search needs
 enum-known-touch : tie.Need-enum-known-touch
 enum-known-touch c = search needs
 
-put-requires : tie.Need-put-requires
-put-requires c κs = search needs
+put-from-requires : tie.Need-put-from-requires
+put-from-requires c κs = search needs
 
 enum-known-touch-2 : tie.Need-enum-known-touch-2
 enum-known-touch-2 c = search needs
@@ -36,7 +36,7 @@ same-length c = search needs
 
 returns-2 : tie.Need-returns-2
 unfolding touched
-returns-2 c = c .before .before .put .ensures ∙ rw (c .before .before .before .before .before .touch .given .1)
+returns-2 c = c .before .before .put-from .ensures ∙ rw (c .before .before .before .before .before .touch .given .1)
 
 same-length-2 : tie.Need-same-length-2
 same-length-2 c = search needs
@@ -58,7 +58,7 @@ settle-spec =
     (tie.spec
     enum-told
     enum-known-touch
-    put-requires
+    put-from-requires
     enum-known-touch-2
     zeros-from-requires
     enum-told-2

@@ -33,6 +33,12 @@ enum-known-m-3 c = search needs
 following-requires : tie.Need-following-requires
 following-requires c κs = search needs
 
+lead-of-requires : tie.Need-lead-of-requires
+lead-of-requires c κs = search needs
+
+in-bytes-requires : tie.Need-in-bytes-requires
+in-bytes-requires c κs = search needs
+
 place-of-requires : tie.Need-place-of-requires
 place-of-requires c κs = search needs
 
@@ -61,7 +67,10 @@ returns-2 c = c .turn-to2 .ensures ∙ rw (c .before .opening .ensures, c .befor
 
 returns-3 : tie.Need-returns-3
 unfolding turnOf
-returns-3 c = c .turn-to3 .ensures ∙ rw (c .before .place-of .ensures, c .before .before .following .ensures, c .before .before .before .before .m3 .given .1)
+returns-3 c =
+    let bytes = c .before .before in
+    c .turn-to3 .ensures
+    ∙ rw (c .before .place-of .ensures, bytes .in-bytes .ensures, bytes .before .lead-of .ensures, bytes .before .before .following .ensures, bytes .before .before .before .before .m3 .given .1)
 
 returns-4 : tie.Need-returns-4
 unfolding turnOf
@@ -84,6 +93,8 @@ turn-of-spec =
     turn-to-requires-2
     enum-known-m-3
     following-requires
+    lead-of-requires
+    in-bytes-requires
     place-of-requires
     turn-to-requires-3
     enum-told
