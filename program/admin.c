@@ -528,7 +528,7 @@ static void serve_page(const struct command *k) {
     else if (answer)
         refuse(k, status);
     else
-        deliver(k, here.data, transfer_bytes(words));
+        deliver(k, here.data, transfer_bytes(here.drive->caps, words));
 }
 
 /* The command has waited as long as it was to wait. */

@@ -191,6 +191,7 @@ static void print_length(const struct finding *f, const struct saved *saved) {
 /* Why nothing more is shown of the header. */
 static void print_why(const struct reading *header) {
     print_answer(header->answer, meaning(header->answer), header->fault.field ? fault_text(&header->fault) : NULL);
+    putchar('\n');
 }
 
 /* One file of several in a line. */

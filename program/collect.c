@@ -18,13 +18,33 @@
 
 static struct collect_options options;
 
+/* Nothing can be split on a drive that takes no offset. */
+static void judge_blocks(const struct drive *drive) {
+    if (options.blocks_given && drive_is_old(drive))
+        die("%s: has no extended data (LPA bit 2 is 0), so one command reads header and blocks together: leave --blocks out", drive_name(drive));
+}
+
+/* A drive without extended data is lent no more room than one command can fill. */
+static void complete_old(struct wish *wish, const struct drive *drive) {
+    uint32_t reach = drive_reach(drive);
+    size_t most = (size_t)reach * BLOCK;
+    wish->blocks = 0;
+    if (wish->room > most)
+        wish->room = most;
+    if (!options.quiet && wish->area <= greatest_area(drive->caps))
+        say("note: %s has no extended data (LPA bit 2 is 0): one command reads header and blocks together, up to block %u%s, so at most %u blocks"
+            " (%zu bytes) of an area", drive_name(drive), (unsigned)reach, reach < REACH ? " by the drive's MDTS" : "", (unsigned)reach, most);
+}
+
 /* What the drive decides where the options leave it open. */
 static void complete(struct wish *wish, const struct drive *drive) {
     if (!wish->area)
         wish->area = greatest_area(drive->caps);
     if (!options.room_given)
         wish->room = wish->area == 4 ? MOST_ROOM : LAST_OF_AREA_3 * BLOCK;
-    if (wish->blocks > drive->most_blocks) {
+    if (drive_is_old(drive)) {
+        complete_old(wish, drive);
+    } else if (wish->blocks > drive->most_blocks) {
         wish->blocks = drive->most_blocks;
         if (!options.quiet)
             say("note: %u blocks a command, the most that %s", (unsigned)wish->blocks, drive->most_blocks_by);
@@ -71,6 +91,9 @@ static int collect_from(const char *device) {
         say_at_death(report_json);
     struct drive *drive = device ? device_open(device, options.timeout) : embedded_open(wish.page, &options.drive);
     report.drive = drive;
+    judge_blocks(drive);
+    if (device)
+        device_ask();
     complete(&wish, drive);
     report.area = wish.area;
     output_open(options.output ? options.output : own_name(options.output_dir), options.no_clobber || options.output_dir);

@@ -30,7 +30,8 @@ static const char help[] = "usage: bumbazeel collect [OPTIONS] [DEVICE] OUTPUT\n
                            "  -o, --output OUTPUT   the file, if it is not the last word\n"
                            "  --output-dir FOLDER   a new file in FOLDER, named by serial, page and time\n"
                            "  --no-clobber          replace no file\n"
-                           "  --blocks N            blocks a command, 1 to 8192 (128)\n"
+                           "  --blocks N            blocks a command, 1 to 8192 (128); refused of a drive\n"
+                           "                        without extended data, which one command reads\n"
                            "  --attempts N          attempts if the page changes meanwhile, 1 to 65535 (5)\n"
                            "  --room BYTES          the most that the area may take, a multiple of 512\n"
                            "                        (all that the area can have)\n"
@@ -68,9 +69,10 @@ static bool read_wish(struct collect_options *o, struct arguments *a) {
         o->wish.acknowledge = ALWAYS;
     else if (argument_flag(a, "--keep"))
         o->wish.acknowledge = NEVER;
-    else if (argument_value(a, "--blocks", &value))
+    else if (argument_value(a, "--blocks", &value)) {
         o->wish.blocks = (uint32_t)number_of("--blocks", value, 1, MOST_BLOCKS);
-    else if (argument_value(a, "--attempts", &value))
+        o->blocks_given = true;
+    } else if (argument_value(a, "--attempts", &value))
         o->wish.attempts = (uint32_t)number_of("--attempts", value, 1, MOST_ATTEMPTS);
     else if (argument_value(a, "--room", &value)) {
         o->wish.room = (size_t)number_of("--room", value, 0, MOST_ROOM);

@@ -11,7 +11,7 @@
 struct collect_options {
     struct wish wish; /* area 0, room 0: not given */
     struct embedded drive;
-    bool room_given, json, quiet, no_clobber;
+    bool blocks_given, room_given, json, quiet, no_clobber;
     uint32_t timeout;         /* milliseconds a command; 0: as long as the system lets it */
     struct operands devices;  /* none: the embedded drive */
     const char *output;       /* NULL: a name of its own in the folder output_dir */

@@ -3,6 +3,7 @@
 
 #include "lazy.h"
 #include "names.h"
+#include "numbers.h"
 #include "say.h"
 
 #include <errno.h>
@@ -26,6 +27,7 @@ static const uint32_t EVERY_NAMESPACE = 0xFFFFFFFF;
 static struct {
     struct drive drive;
     int file;
+    uint8_t lpa;
     uint32_t timeout;
     int reason; /* the error number of the latest ioctl that failed */
 } here;
@@ -45,7 +47,8 @@ static void explain(int reason, size_t bytes) {
     else if (reason == EAGAIN)
         trouble("the controller is being reset or reconnected: try again later");
     else if (reason == EINVAL)
-        trouble("the system takes no transfer of %zu blocks: give fewer with --blocks", bytes / 512);
+        trouble("the system takes no transfer of %zu blocks: %s", bytes / 512,
+                drive_is_old(&here.drive) ? "choose a smaller area with --area" : "give fewer with --blocks");
     else
         trouble("the drive cannot be asked: %s", strerror(reason));
 }
@@ -111,10 +114,10 @@ static void identify(uint8_t *data) {
     if (status)
         die("%s: the drive refuses Identify Controller with status %04Xh (%s)", here.drive.path, (unsigned)status,
             status_name((uint16_t)status));
-    uint8_t lpa = data[LPA_AT];
-    here.drive.caps |= lpa & LPA_EXTENDED ? BUMBAZEEL_EXTENDED : 0;
-    here.drive.caps |= lpa & LPA_TELEMETRY ? BUMBAZEEL_TELEMETRY : 0;
-    here.drive.caps |= lpa & LPA_DA4S ? BUMBAZEEL_DA4S : 0;
+    here.lpa = data[LPA_AT];
+    here.drive.caps |= here.lpa & LPA_EXTENDED ? BUMBAZEEL_EXTENDED : 0;
+    here.drive.caps |= here.lpa & LPA_TELEMETRY ? BUMBAZEEL_TELEMETRY : 0;
+    here.drive.caps |= here.lpa & LPA_DA4S ? BUMBAZEEL_DA4S : 0;
     here.drive.oui = data[IEEE_AT] | (uint32_t)data[IEEE_AT + 1] << 8 | (uint32_t)data[IEEE_AT + 2] << 16;
     put_text(here.drive.serial, data + SERIAL_AT, sizeof here.drive.serial - 1);
     put_text(here.drive.model, data + MODEL_AT, sizeof here.drive.model - 1);
@@ -166,15 +169,28 @@ struct drive *device_open(const char *path, uint32_t timeout) {
     here.timeout = timeout;
     open_file(path);
     identify(data);
-    uint8_t lpa = data[LPA_AT];
-    if (lpa & LPA_DA4S)
-        ask_etdas(data);
-    if (lpa & LPA_SUPPORTED_PAGES)
-        ask_mcdas(data);
     free_bytes(data, IDENTIFY_BYTES);
     return &here.drive;
 }
 
+void device_ask(void) {
+    uint8_t *data = lazy_bytes(IDENTIFY_BYTES);
+    if (here.lpa & LPA_DA4S)
+        ask_etdas(data);
+    if (here.lpa & LPA_SUPPORTED_PAGES)
+        ask_mcdas(data);
+    free_bytes(data, IDENTIFY_BYTES);
+}
+
 const char *drive_name(const struct drive *drive) { return drive->path ? drive->path : "the embedded drive"; }
 
-size_t transfer_bytes(const uint32_t words[5]) { return 4 * ((size_t)(words[0] >> 16 | (words[1] & 0xFFFF) << 16) + 1); }
+bool drive_is_old(const struct drive *drive) {
+    return (drive->caps & (BUMBAZEEL_TELEMETRY | BUMBAZEEL_EXTENDED)) == BUMBAZEEL_TELEMETRY;
+}
+
+uint32_t drive_reach(const struct drive *drive) { return drive->most_blocks <= REACH ? drive->most_blocks - 1 : REACH; }
+
+size_t transfer_bytes(uint8_t caps, const uint32_t words[5]) {
+    uint32_t count = caps & BUMBAZEEL_EXTENDED ? words[0] >> 16 | (words[1] & 0xFFFF) << 16 : words[0] >> 16 & 0xFFF;
+    return 4 * ((size_t)count + 1);
+}

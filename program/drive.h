@@ -28,13 +28,23 @@ struct drive {
 /* The device's path, or what the embedded drive is called. */
 const char *drive_name(const struct drive *drive);
 
+/* Whether it has telemetry pages but no extended data (LPA bit 2 at 0). Such a drive takes no offset into a page, so one command reads header
+ * and blocks together. */
+bool drive_is_old(const struct drive *drive);
+
+/* The last block that this one command brings: that of 4,096 dwords, or less by MDTS. */
+uint32_t drive_reach(const struct drive *drive);
+
 /* ---- a device of this machine, through Linux's admin passthrough */
 
-/* Opens it and asks what it can do. A command may take `timeout` milliseconds; 0: as long as the system lets it. Dies if it is no drive. */
+/* Opens it and asks Identify alone. A command may take `timeout` milliseconds; 0: as long as the system lets it. Dies if it is no drive. */
 struct drive *device_open(const char *path, uint32_t timeout);
 
-/* The bytes that a Get Log Page of these words transfers: those of the library's words, and of any to a drive with extended data. */
-size_t transfer_bytes(const uint32_t words[5]);
+/* Asks the opened drive what Identify leaves open: ETDAS and MCDAS, each only where LPA says that it can be asked for. */
+void device_ask(void);
+
+/* The bytes that a Get Log Page of these words transfers: without extended data 12 bits of the first word count alone. */
+size_t transfer_bytes(uint8_t caps, const uint32_t words[5]);
 
 /* ---- the embedded drive: the library's own controller, with contents made from a seed */
 

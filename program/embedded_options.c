@@ -53,6 +53,8 @@ bool read_embedded_option(struct embedded *e, struct arguments *a) {
         e->caps &= (uint8_t)~BUMBAZEEL_ETDAS;
     else if (argument_flag(a, "--drive-no-mcda"))
         e->caps &= (uint8_t)~BUMBAZEEL_MCDAS;
+    else if (argument_flag(a, "--drive-old"))
+        e->caps &= (uint8_t)~(BUMBAZEEL_EXTENDED | BUMBAZEEL_DA4S | BUMBAZEEL_ETDAS);
     else if (argument_value(a, "--drive-generation", &value))
         e->generation = (uint8_t)number_of("--drive-generation", value, 0, 255);
     else if (argument_flag(a, "--drive-empty"))

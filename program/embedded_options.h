@@ -13,6 +13,7 @@
     "  --drive-no-area4      it has no area 4\n" \
     "  --drive-no-etdas      it has, but the host has not said yes to it\n" \
     "  --drive-no-mcda       it does not honour the greatest area wanted\n" \
+    "  --drive-old           it has no extended data and no area 4\n" \
     "  --drive-generation N  its generation at the start, 0 to 255 (1)\n" \
     "  --drive-empty         it holds no capture at the start\n"
 

@@ -24,10 +24,10 @@ static const char help[] = "usage: bumbazeel COMMAND [OPTIONS]\n"
                            "bumbazeel COMMAND -h, --help tells a command's options.\n"
                            "bumbazeel -V, --version tells the version.\n"
                            "\n"
-                           "Exit status: 0 success; 7 to 12 the ending of a collection, 7 a bad header of a\n"
-                           "saved page, 11 nothing on a drive or in a saved page 08h; 1 a file that is not\n"
-                           "as long as its header says; 2 bad use, and what the machine refuses. Of several\n"
-                           "drives or files the first status that is not 0 counts.\n";
+                           "Exit status: 0 success; 7 to 12 and 19 the ending of a collection, 7 a bad\n"
+                           "header of a saved page, 11 nothing on a drive or in a saved page 08h; 1 a file\n"
+                           "that is not as long as its header says; 2 bad use, and what the machine refuses.\n"
+                           "Of several drives or files the first status that is not 0 counts.\n";
 
 static const struct {
     const char *name;

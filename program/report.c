@@ -59,16 +59,18 @@ static void put_acknowledgement(char *text, size_t room) {
 }
 
 void report_line(void) {
-    char fault[192] = "", saved[5632], failed[128] = "", refusal[128], acknowledgement[160];
+    char why[256] = "", saved[5632], failed[128] = "", refusal[128], acknowledgement[160];
     if (report.fault.field)
-        snprintf(fault, sizeof fault, "%s; ", fault_text(&report.fault));
+        snprintf(why, sizeof why, "%s; ", fault_text(&report.fault));
+    else if (report.out_of_reach.area)
+        snprintf(why, sizeof why, "%s; ", out_of_reach_text(&report.out_of_reach));
     put_saved(saved, sizeof saved);
     put_refusal(refusal, sizeof refusal);
     put_acknowledgement(acknowledgement, sizeof acknowledgement);
     if (report.failed)
         snprintf(failed, sizeof failed, "; %u attempt%s failed because the page changed in between", (unsigned)report.failed,
                  plural(report.failed));
-    say("ending %u (%s): %s%u attempt%s, %llu command%s, %s%s%s%s", report.ending, meaning(report.ending), fault, (unsigned)report.attempts,
+    say("ending %u (%s): %s%u attempt%s, %llu command%s, %s%s%s%s", report.ending, meaning(report.ending), why, (unsigned)report.attempts,
         plural(report.attempts), (unsigned long long)report.commands, plural(report.commands), saved, failed, refusal, acknowledgement);
 }
 
@@ -120,6 +122,7 @@ void report_json(int status, const char *error) {
         fputs("null", stdout);
     print_member("meaning", report.ended ? meaning(report.ending) : NULL);
     fault_json(&report.fault);
+    out_of_reach_json(&report.out_of_reach);
     print_member("error", error);
     print_time();
     print_drive(report.drive);

@@ -4,6 +4,7 @@
 
 #include "drive.h"
 #include "fault.h"
+#include "reach.h"
 
 #include <stdbool.h>
 #include <stddef.h>
@@ -21,6 +22,7 @@ struct report {
     bool ended;                /* the collection has an ending, which is `ending` */
     uint8_t ending;
     struct fault fault;        /* with ending 7, of the header just judged */
+    struct out_of_reach out_of_reach; /* with ending 19, and with 8 by MDTS: of the header just judged */
     uint32_t attempts, failed;
     uint64_t commands; /* Get Log Pages of the page collected that were sent */
     bool newer;        /* a newer capture was acknowledged unread */

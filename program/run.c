@@ -12,6 +12,7 @@
 #include "numbers.h"
 #include "output.h"
 #include "progress.h"
+#include "reach.h"
 #include "report.h"
 #include "say.h"
 #include "sha256.h"
@@ -28,7 +29,8 @@ struct under_way {
     struct bumbazeel_state state;
     struct bumbazeel_next next;
     uint32_t sent[5];     /* the words of the latest command, */
-    uint8_t *data;        /* and what it brought */
+    uint8_t *data;        /* and what it brought, */
+    size_t data_bytes;    /* for which there is this much */
     uint8_t *image;       /* the file: the latest closing header, then the copy */
     size_t room, held;    /* bytes of the copy, and those of the image */
     uint32_t earlier;     /* attempts of this run before this collection */
@@ -47,8 +49,6 @@ static void set_up(struct under_way *r, uint8_t create, size_t room) {
 static const char *lacking(uint8_t caps, uint8_t answer) {
     if (!(caps & BUMBAZEEL_TELEMETRY))
         return "LPA bit 3 is 0, so it has no telemetry pages";
-    if (!(caps & BUMBAZEEL_EXTENDED))
-        return "LPA bit 2 is 0, so it takes no offset into a page";
     if (answer == BUMBAZEEL_NO_AREA_4 && !(caps & BUMBAZEEL_DA4S))
         return "LPA bit 6 is 0, so it has no area 4: choose area 1 to 3";
     if (answer == BUMBAZEEL_NO_AREA_4)
@@ -56,12 +56,16 @@ static const char *lacking(uint8_t caps, uint8_t answer) {
     return "the numbers break its limits";
 }
 
+/* The most bytes that a command brings: a chunk, or header and blocks together. */
+static size_t most_bytes(const struct wish *w) { return w->blocks ? (size_t)w->blocks * BLOCK : BLOCK + w->room; }
+
 static void begin(struct under_way *r) {
     set_up(r, r->wish->create, 0);
     if (r->next.kind == BUMBAZEEL_REFUSED)
         die("%s: setup is refused: %u (%s): %s", drive_name(r->drive), r->next.answer, meaning(r->next.answer),
             lacking(r->drive->caps, r->next.answer));
-    r->data = held_bytes((size_t)r->wish->blocks * BLOCK);
+    r->data_bytes = most_bytes(r->wish);
+    r->data = held_bytes(r->data_bytes);
 }
 
 /* Plans the wish from the header just read: the library's answer, and the bytes that the wanted area takes. With a refusal these are 0: in
@@ -119,8 +123,10 @@ static void list(const uint32_t words[5]) {
 
 /* Sends the command that is awaited, and lets the library take its completion. False: it is not known what the drive did. */
 static bool exchange(struct under_way *r) {
-    size_t bytes = transfer_bytes(r->next.words);
+    size_t bytes = transfer_bytes(r->drive->caps, r->next.words);
     uint8_t phase = r->state.phase;
+    if (bytes > r->data_bytes)
+        die("the collection asks for %zu bytes by a command, and there is room for %zu", bytes, r->data_bytes);
     memcpy(r->sent, r->next.words, sizeof r->sent);
     if (r->wish->list)
         list(r->sent);
@@ -130,7 +136,7 @@ static bool exchange(struct under_way *r) {
     if (completion == LOST)
         return false;
     if (ok && phase == BUMBAZEEL_AWAITS_CHUNK)
-        r->moved += bytes;
+        r->moved += r->wish->blocks ? bytes : bytes - BLOCK; /* of header and blocks together the blocks alone */
     if (ok && phase == BUMBAZEEL_AWAITS_CLOSING_HEADER)
         memcpy(r->image, r->data, BLOCK);
     if (phase == BUMBAZEEL_AWAITS_FIRST_HEADER)
@@ -169,6 +175,16 @@ static bool acknowledge(struct under_way *r) {
     return true;
 }
 
+/* What is out of reach, where the collection has ended for that: in the header just read, which is good. */
+static struct out_of_reach beyond(const struct under_way *r) {
+    struct out_of_reach none = {.area = 0};
+    bool too_large = r->next.answer == BUMBAZEEL_OUT_OF_REACH || r->next.answer == BUMBAZEEL_NO_ROOM;
+    if (r->next.kind != BUMBAZEEL_ENDED || !too_large)
+        return none;
+    struct reading header = read_header(r->wish->page, r->drive->caps, r->data, BLOCK);
+    return out_of_reach_of(r->drive, r->wish->area, header.planned.last);
+}
+
 /* Where the run is, for whatever is told of it from here on. */
 static void put_report(const struct under_way *r) {
     bool used_up = r->next.answer == BUMBAZEEL_ATTEMPTS_USED_UP;
@@ -176,6 +192,7 @@ static void put_report(const struct under_way *r) {
     report.failed = used_up ? report.attempts : report.attempts - 1;
     report.ending = r->next.answer; /* 0 of a run that goes no further than the acknowledgement */
     report.fault = fault_of(r->next.bad_field, r->wish->page, r->drive->caps & BUMBAZEEL_DA4S, r->data, BLOCK);
+    report.out_of_reach = beyond(r);
 }
 
 /* The next command. False: the run goes no further. */

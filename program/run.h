@@ -14,8 +14,8 @@ enum acknowledge { IF_NOTHING_IS_UNREAD, ALWAYS, NEVER };
 /* What bumbazeel_setup is asked for, and what is shown meanwhile. */
 struct wish {
     uint8_t page, create, area;
-    uint32_t blocks, attempts;
-    size_t room; /* the most bytes that the area may take */
+    uint32_t blocks, attempts; /* blocks 0: of a drive without extended data */
+    size_t room;               /* the most bytes that the area may take */
     enum acknowledge acknowledge;
     bool list, progress, hash;
 };

@@ -1,6 +1,7 @@
 /* Messages: one line each, whatever a file name in them holds. */
 #include "say.h"
 
+#include "bumbazeel.h"
 #include "progress.h"
 
 #include <errno.h>
@@ -61,28 +62,30 @@ void say_at_death(void (*tell)(int status, const char *error)) { at_death = tell
 
 const char *meaning(uint8_t answer) {
     static const char *const meanings[] = {
-        "success",
-        "invalid field in command",
-        "invalid log page",
-        "transfer buffer shorter than the transfer",
-        "record and lent stores disagree",
-        "broken candidate",
-        "area 4 wanted without DA4S and ETDAS",
-        "bad header",
-        "wanted area larger than the copy",
-        "attempts used up",
-        "withdrawn, the 08h header no longer shows data available",
-        "nothing, the first 08h header shows no data available",
-        "controller broke its word",
-        "bad setup or state, bad builder arguments",
-        "already ended",
-        "completion doesn't fit the awaited command",
+        [BUMBAZEEL_SUCCESS] = "success",
+        [BUMBAZEEL_INVALID_FIELD] = "invalid field in command",
+        [BUMBAZEEL_INVALID_LOG_PAGE] = "invalid log page",
+        [BUMBAZEEL_SHORT_BUFFER] = "transfer buffer shorter than the transfer",
+        [BUMBAZEEL_DISAGREE] = "record and lent stores disagree",
+        [BUMBAZEEL_BROKEN_CANDIDATE] = "broken candidate",
+        [BUMBAZEEL_NO_AREA_4] = "area 4 wanted without DA4S and ETDAS",
+        [BUMBAZEEL_BAD_HEADER] = "bad header",
+        [BUMBAZEEL_NO_ROOM] = "wanted area larger than the copy",
+        [BUMBAZEEL_ATTEMPTS_USED_UP] = "attempts used up",
+        [BUMBAZEEL_WITHDRAWN] = "withdrawn, the 08h header no longer shows data available",
+        [BUMBAZEEL_NOTHING] = "nothing, the first 08h header shows no data available",
+        [BUMBAZEEL_BROKE_ITS_WORD] = "controller broke its word",
+        [BUMBAZEEL_BAD_SETUP] = "bad setup or state, bad builder arguments",
+        [BUMBAZEEL_ALREADY_ENDED] = "already ended",
+        [BUMBAZEEL_DOES_NOT_FIT] = "completion doesn't fit the awaited command",
+        [BUMBAZEEL_OUT_OF_REACH] = "wanted area past block 31, where the drive has no extended data",
     };
-    return answer < sizeof meanings / sizeof *meanings ? meanings[answer] : "unknown answer";
+    bool known = answer < sizeof meanings / sizeof *meanings && meanings[answer];
+    return known ? meanings[answer] : "unknown answer";
 }
 
 void print_answer(uint8_t answer, const char *words, const char *why) {
-    printf("%u (%s)%s%s\n", answer, words, why ? ": " : "", why ? why : "");
+    printf("%u (%s)%s%s", answer, words, why ? ": " : "", why ? why : "");
 }
 
 void close_stdout(const char *aside) {

@@ -5,7 +5,7 @@
 #include <stdbool.h>
 #include <stdint.h>
 
-/* An exit status. A collection or a header that is not as it should be has the number of its answer, 7 to 12. */
+/* An exit status. A collection or a header that is not as it should be has the number of its answer, 7 to 12 or 19. */
 enum {
     STATUS_SUCCESS = 0,
     STATUS_OTHER_LENGTH = 1, /* a file that does not end where its header says */
@@ -28,7 +28,7 @@ void say_at_death(void (*tell)(int status, const char *error));
 /* The meaning of an answer number, in document 01's words. */
 const char *meaning(uint8_t answer);
 
-/* Prints "7 (bad header): why", the words being those in parentheses; NULL: there is nothing to say of why. */
+/* Prints "7 (bad header): why" and no end of the line, the words being those in parentheses; NULL: there is nothing to say of why. */
 void print_answer(uint8_t answer, const char *words, const char *why);
 
 /* The text with a '?' for each byte that would break a line or steer a terminal. */

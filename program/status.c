@@ -10,6 +10,7 @@
 #include "json.h"
 #include "names.h"
 #include "numbers.h"
+#include "reach.h"
 #include "say.h"
 
 #include <stdio.h>
@@ -77,6 +78,20 @@ static const char *reason(const struct drive *drive, const struct fault *fault) 
     return fault->field ? fault_text(fault) : drive->refusal ? status_name(drive->refusal) : NULL;
 }
 
+/* What is out of reach of the greatest area, if the header says how large that is. */
+static struct out_of_reach beyond_of(const struct drive *drive, const struct reading *header) {
+    return out_of_reach_of(drive, greatest_area(drive->caps), header->planned.last);
+}
+
+/* That the drive has no extended data, and what this limits. */
+static void print_old(const struct drive *drive, const struct reading *header) {
+    struct out_of_reach beyond = beyond_of(drive, header);
+    if (beyond.area)
+        printf("; no extended data, and %s", out_of_reach_text(&beyond));
+    else
+        printf("; no extended data, so block %u is the last in reach%s", (unsigned)beyond.reach, beyond.reach < REACH ? " (MDTS)" : "");
+}
+
 static void print_line(const struct drive *drive, const struct reading *header) {
     uint32_t blocks = blocks_held(header->planned.last);
     char path[4096];
@@ -84,14 +99,18 @@ static void print_line(const struct drive *drive, const struct reading *header) 
     make_plain(path);
     printf("%s  %s  %s  %02Xh: ", path, drive->serial, drive->model, options.page);
     if (told(header) == BUMBAZEEL_SUCCESS)
-        printf("yes, generation %u, %u blocks, %llu bytes\n", own_generation(&header->planned), (unsigned)blocks,
+        printf("yes, generation %u, %u blocks, %llu bytes", own_generation(&header->planned), (unsigned)blocks,
                (unsigned long long)BLOCK * (1 + (uint64_t)blocks));
     else
         print_answer(told(header), in_words(told(header)), reason(drive, &header->fault));
+    if (drive_is_old(drive))
+        print_old(drive, header);
+    putchar('\n');
 }
 
 static void print_json(const struct drive *drive, const struct reading *header) {
     const uint32_t *last = header->planned.last;
+    struct out_of_reach beyond = beyond_of(drive, header);
     printf("{\"status\": %u, \"error\": null, \"device\": ", told(header));
     json_string(drive->path);
     printf(", \"serial\": ");
@@ -100,9 +119,10 @@ static void print_json(const struct drive *drive, const struct reading *header) 
     json_string(drive->model);
     printf(", \"firmware\": ");
     json_string(drive->firmware);
-    printf(", \"page\": \"%02Xh\", \"meaning\": ", options.page);
+    printf(", \"extended_data\": %s, \"page\": \"%02Xh\", \"meaning\": ", json_flag(drive->caps & BUMBAZEEL_EXTENDED), options.page);
     json_string(in_words(told(header)));
     fault_json(&header->fault);
+    out_of_reach_json(&beyond);
     if (header->answer == BUMBAZEEL_SUCCESS)
         printf(", \"generation\": %u, \"last_blocks\": [%u, %u, %u, %u]", own_generation(&header->planned), (unsigned)last[0],
                (unsigned)last[1], (unsigned)last[2], (unsigned)last[3]);
@@ -111,6 +131,7 @@ static void print_json(const struct drive *drive, const struct reading *header) 
 
 static int tell_status(const char *path) {
     struct drive *drive = device_open(path, options.timeout);
+    device_ask();
     struct reading header = ask(drive);
     say_at_death(NULL); /* its object is the one that is printed here */
     if (options.json)

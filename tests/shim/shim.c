@@ -2,11 +2,12 @@
  * controller. So the program, and the tools of the trade, can be tried on a drive where there is none.
  *
  *   BUMBAZEEL_SHIM=PATH         the device's path (it need not exist); without it nothing is answered here
+ *   BUMBAZEEL_SHIM_OLD=PATH     the path of a second one, an old drive: it has neither extended data nor area 4, and its LPA is 08h
  *   BUMBAZEEL_SHIM_AREAS=A,B,C,D   last blocks of the four areas (default 2,3,5,9)
- *   BUMBAZEEL_SHIM_MDTS=N       the drive's MDTS (default 5: 128 KiB)
+ *   BUMBAZEEL_SHIM_MDTS=N       the drive's MDTS (default 5: 128 KiB); a longer Get Log Page is refused
  *   BUMBAZEEL_SHIM_ETDAS=0      the host has said no to area 4 (default 1); 2: after the first capture was taken
  *   BUMBAZEEL_SHIM_MCDAS=1      it honours the greatest area that a create wants, as its page 00h says (default 0)
- *   BUMBAZEEL_SHIM_LPA=N        the LPA that it shows (default 6Ch: extended data, telemetry, page 00h, area 4)
+ *   BUMBAZEEL_SHIM_LPA=N        the LPA that it shows (default 6Ch: extended data, telemetry, page 00h, area 4); bit 2 is what it has
  *   BUMBAZEEL_SHIM_CAPTURE=N    a capture of the page asked for comes right before the N-th Get Log Page
  *   BUMBAZEEL_SHIM_DROP=N       a drop comes right before the N-th Get Log Page, and before a capture that comes there too
  *   BUMBAZEEL_SHIM_HEADER=BYTE=VALUE[,BYTE=VALUE..]   these bytes of the headers that it gives have these values
@@ -39,7 +40,7 @@ enum { BLOCK = BUMBAZEEL_BLOCK, REASON = BUMBAZEEL_REASON, NVME_MAJOR = 243, INV
 static const uint32_t OUI = 0x02425A, RETAIN_EVENT = 1u << 15;
 
 static struct {
-    bool ready;
+    bool ready, old;
     int file;
     struct bumbazeel_record record;
     uint32_t last[4];
@@ -120,6 +121,10 @@ static void drop_07(void) {
     must(!bumbazeel_drop_on(&all), "the drop is refused");
 }
 
+static uint8_t shown_lpa(void) { return (uint8_t)setting("BUMBAZEEL_SHIM_LPA", drive.old ? 1 << 3 : 1 << 2 | 1 << 3 | 1 << 5 | 1 << 6); }
+
+static uint8_t shown_mdts(void) { return (uint8_t)setting("BUMBAZEEL_SHIM_MDTS", 5); }
+
 static void read_failure(void) {
     const char *text = getenv("BUMBAZEEL_SHIM_FAIL");
     char when[8] = "";
@@ -131,10 +136,10 @@ static void read_failure(void) {
 
 static void get_ready(void) {
     const char *areas = getenv("BUMBAZEEL_SHIM_AREAS");
-    uint8_t caps = BUMBAZEEL_EXTENDED | BUMBAZEEL_TELEMETRY | BUMBAZEEL_DA4S;
+    uint8_t caps = BUMBAZEEL_TELEMETRY | (shown_lpa() & 1 << 2 ? BUMBAZEEL_EXTENDED : 0) | (drive.old ? 0 : BUMBAZEEL_DA4S);
     must(sscanf(areas ? areas : "2,3,5,9", "%u,%u,%u,%u", &drive.last[0], &drive.last[1], &drive.last[2], &drive.last[3]) == 4,
          "BUMBAZEEL_SHIM_AREAS wants four numbers");
-    if (setting("BUMBAZEEL_SHIM_ETDAS", 1))
+    if (setting("BUMBAZEEL_SHIM_ETDAS", 1) && !drive.old)
         caps |= BUMBAZEEL_ETDAS;
     if (setting("BUMBAZEEL_SHIM_MCDAS", 0))
         caps |= BUMBAZEEL_MCDAS;
@@ -235,7 +240,8 @@ static int get_log_page(const uint32_t words[5], uint8_t *data, size_t bytes) {
         drop_07();
     if (drive.asked == drive.capture_before)
         page == 8 ? take_08() : take_07();
-    uint8_t answer = command(words, data, bytes);
+    bool too_long = shown_mdts() && bytes > (size_t)4096 << shown_mdts();
+    uint8_t answer = too_long ? BUMBAZEEL_INVALID_FIELD : command(words, data, bytes);
     uint16_t status = bumbazeel_status(answer);
     must(status != 0xFFFF, "the controller is lent too little");
     if (!answer && !words[2] && !words[3])
@@ -254,8 +260,8 @@ static int identify(uint32_t what, uint8_t *data, size_t bytes) {
     data[73] = OUI & 0xFF;
     data[74] = OUI >> 8 & 0xFF;
     data[75] = OUI >> 16;
-    data[77] = (uint8_t)setting("BUMBAZEEL_SHIM_MDTS", 5);
-    data[261] = (uint8_t)setting("BUMBAZEEL_SHIM_LPA", 1 << 2 | 1 << 3 | 1 << 5 | 1 << 6);
+    data[77] = shown_mdts();
+    data[261] = shown_lpa();
     return 0;
 }
 
@@ -294,13 +300,16 @@ static int admin(struct nvme_admin_cmd *c) {
 
 /* ---- what the program calls */
 
-static bool is_drive(const char *path) {
-    const char *here = getenv("BUMBAZEEL_SHIM");
+static bool is_named(const char *path, const char *name) {
+    const char *here = getenv(name);
     return here && path && !strcmp(path, here);
 }
 
-static int open_drive(void) {
+static bool is_drive(const char *path) { return is_named(path, "BUMBAZEEL_SHIM") || is_named(path, "BUMBAZEEL_SHIM_OLD"); }
+
+static int open_drive(const char *path) {
     int (*real)(const char *, int, ...) = (int (*)(const char *, int, ...))(uintptr_t)dlsym(RTLD_NEXT, "open");
+    drive.old = is_named(path, "BUMBAZEEL_SHIM_OLD");
     drive.file = real("/dev/null", O_RDONLY | O_CLOEXEC);
     return drive.file;
 }
@@ -312,7 +321,7 @@ static int open_drive(void) {
         mode_t mode = flags & (O_CREAT | O_TMPFILE) ? va_arg(rest, mode_t) : 0;                                                           \
         va_end(rest);                                                                                                                      \
         if (is_drive(path))                                                                                                                \
-            return open_drive();                                                                                                           \
+            return open_drive(path);                                                                                                       \
         return ((int (*)(const char *, int, ...))(uintptr_t)dlsym(RTLD_NEXT, #name))(path, flags, mode);                                  \
     }
 OPENS(open)
@@ -322,7 +331,7 @@ OPENS(open64)
 #define OPENS_ONLY(name)                                                                                                                   \
     int name(const char *path, int flags);                                                                                                 \
     int name(const char *path, int flags) {                                                                                                \
-        return is_drive(path) ? open_drive() : ((int (*)(const char *, int))(uintptr_t)dlsym(RTLD_NEXT, #name))(path, flags);             \
+        return is_drive(path) ? open_drive(path) : ((int (*)(const char *, int))(uintptr_t)dlsym(RTLD_NEXT, #name))(path, flags);         \
     }
 OPENS_ONLY(__open_2)
 OPENS_ONLY(__open64_2)
