@@ -148,6 +148,8 @@ fn phase_of(awaited: Awaited) -> (u8, u32) {
     match awaited {
         Awaited::FirstHeader => (0, 0),
         Awaited::Chunk(at) => (1, at),
+        // Its blocks start at block 1.
+        Awaited::HeaderAndBlocks => (1, 1),
         Awaited::ClosingHeader => (2, 0),
         Awaited::HeaderAfterRefusal => (3, 0),
         Awaited::Acknowledgement => (4, 0),
@@ -161,6 +163,7 @@ fn read_state(bytes: &[u8; STATE_BYTES]) -> Option<Collection> {
     let at = get_u32(bytes, 20);
     let awaited = match bytes[0] {
         0 => Awaited::FirstHeader,
+        1 if at == 1 && bytes[4] & 1 == 0 => Awaited::HeaderAndBlocks,
         1 => Awaited::Chunk(at),
         2 => Awaited::ClosingHeader,
         3 => Awaited::HeaderAfterRefusal,
@@ -243,11 +246,12 @@ pub struct Wanted {
 }
 
 impl Wanted {
-    /// The plan that refuses the fewest headers of a page: of the greatest area that the capabilities allow, a block a command, into the
-    /// largest copy.
+    /// The plan that refuses the fewest headers of a page: of the greatest area that the capabilities allow, a block a command, or without
+    /// extended data in one, into the largest copy.
     pub fn largest(page: u8, caps: u8) -> Wanted {
-        let area = if capabilities_of(caps).area_4() { 4 } else { 3 };
-        Wanted { page, area, caps, chunk: 1, room: host::ROOM_LIMIT }
+        let capabilities = capabilities_of(caps);
+        let area = if capabilities.area_4() { 4 } else { 3 };
+        Wanted { page, area, caps, chunk: capabilities.extended as u32, room: host::ROOM_LIMIT }
     }
 
     pub fn setup(self, create: u8, attempts: u32) -> Setup {

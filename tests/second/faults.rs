@@ -1,6 +1,6 @@
 //! What is at fault in a bad header: each fault alone, every two and more of them together, at a plan and in collections. What is due follows
 //! here from what was put into a header, by document 02's order, so these cases are a third opinion on it. The plans are of the greatest area
-//! into the largest copy, so that nothing but the header refuses them.
+//! into the largest copy, so that nothing but the header refuses them, and without extended data the reach.
 //!
 //! These cannot be at fault together:
 //! - TCDA and available but empty: one has TCDA over 1, the other TCDA 1;
@@ -12,7 +12,7 @@
 use std::collections::BTreeSet;
 
 use crate::boundary::{Setup, Wanted, ENDED, NEXT_BYTES, PLANNED_BYTES, REFUSED, STATE_BYTES};
-use crate::generate::{self, DA4S, ETDAS, EXTENDED, MCDAS, TELEMETRY};
+use crate::generate::{self, is_old, DA4S, ETDAS, EXTENDED, MCDAS, TELEMETRY};
 use crate::orders::header_state;
 use crate::pair::{hex, Difference, Pair, Same};
 use crate::random::Random;
@@ -173,24 +173,30 @@ fn hold(holds: bool, what: impl Fn() -> String) -> Same<()> {
     Err(Difference(format!("both agree, but not with document 02: {}", what())))
 }
 
-/// What nothing but a header refuses: with DA4S 1 area 4 may be wanted or, without ETDAS, not.
+/// What nothing but a header refuses: with DA4S 1 area 4 may be wanted or, without ETDAS, not. One in three is a drive without extended data.
 fn caps(random: &mut Random, da4s: bool) -> u8 {
-    EXTENDED | TELEMETRY | random.pick(&[0, ETDAS, MCDAS, ETDAS | MCDAS]) | if da4s { DA4S } else { 0 }
+    let extended = random.pick(&[EXTENDED, EXTENDED, 0]);
+    extended | TELEMETRY | random.pick(&[0, ETDAS, MCDAS, ETDAS | MCDAS]) | if da4s { DA4S } else { 0 }
 }
 
-/// A plan that is to find this at fault, and then tells nothing else of the header. Of a good one it tells what it says, but for one of 08h
-/// that shows no data available: that is 11, and tells nothing.
+/// The answer to a largest plan from a good header: on 08h without data available 11, then without extended data 19 past block 31.
+fn answer_to_good(page: u8, caps: u8, header: &[u8]) -> u8 {
+    let nothing = page == CONTROLLER_PAGE && header[382] == 0;
+    let greatest = if caps & (DA4S | ETDAS) == DA4S | ETDAS { 16..20 } else { 12..14 };
+    let far = header[greatest].iter().rev().fold(0, |number, byte| number << 8 | *byte as u32) > 31;
+    match is_old(caps) {
+        _ if nothing => NOTHING,
+        true if far => OUT_OF_REACH,
+        _ => SUCCESS,
+    }
+}
+
+/// A plan that is to find this at fault, and then tells nothing else of the header. Of a good one it tells what it says, but nothing with 11
+/// and 19.
 fn find(pair: &mut Pair, page: u8, caps: u8, header: &[u8], due: u8) -> Same<()> {
     let (answer, planned) = pair.plan(Wanted::largest(page, caps), header)?;
     let byte = bytes(scope_byte(page))[due as usize];
-    let nothing = page == CONTROLLER_PAGE && header.get(382) == Some(&0);
-    let answer_due = if due != NONE {
-        BAD_HEADER
-    } else if nothing {
-        NOTHING
-    } else {
-        SUCCESS
-    };
+    let answer_due = if due == NONE { answer_to_good(page, caps, header) } else { BAD_HEADER };
     let wanted = (answer_due, due, byte);
     let told = (answer, planned[5], u16::from_le_bytes([planned[6], planned[7]]));
     let silent = planned[..5] == [0; 5] && planned[8..] == [0; PLANNED_BYTES - 8];
@@ -268,7 +274,7 @@ pub fn field_bytes(pair: &mut Pair, _: &mut Random) -> Same<()> {
 fn one_block(random: &mut Random, page: u8, da4s: bool) -> Setup {
     let caps = caps(random, da4s);
     let create = page == HOST_PAGE && random.chance(50);
-    Setup { page, create: random.flag(create), area: 1, caps, chunk: 1, attempts: 2, room: 512 }
+    Setup { page, create: random.flag(create), area: 1, caps, chunk: !is_old(caps) as u32, attempts: 2, room: 512 }
 }
 
 /// The states of a collection that await a header, each after the steps that lead there: the first, a closing one, the one after a refused
@@ -285,7 +291,8 @@ fn awaiting(pair: &mut Pair, random: &mut Random, setup: Setup) -> Same<[[u8; ST
         opening[if setup.page == HOST_PAGE { 381 } else { 383 }] = attempt as u8;
         pair.step(&mut opened, 1, &opening, &mut copy)?;
         [states[attempt + 1], states[attempt + 2]] = [opened; 2];
-        pair.step(&mut states[attempt + 1], 1, &[7; BLOCK], &mut copy)?;
+        let chunk = if is_old(setup.caps) { &[7; 2 * BLOCK][..] } else { &[7; BLOCK] };
+        pair.step(&mut states[attempt + 1], 1, chunk, &mut copy)?;
         pair.step(&mut states[attempt + 2], 0, &[], &mut copy)?;
         opened = states[attempt + 1];
     }
@@ -301,8 +308,11 @@ fn told(next: &[u8; NEXT_BYTES]) -> [u8; 4] {
 
 /// Every set of faults at first headers and at later ones: the ending has the first of them, and nothing else ever has one.
 pub fn collections(pair: &mut Pair, random: &mut Random) -> Same<()> {
-    for (page, da4s) in SIDES {
-        let setup = one_block(random, page, da4s);
+    for ((page, da4s), old) in SIDES.into_iter().flat_map(|side| [(side, false), (side, true)]) {
+        let mut setup = one_block(random, page, da4s);
+        while is_old(setup.caps) != old {
+            setup = one_block(random, page, da4s);
+        }
         for awaiting in awaiting(pair, random, setup)? {
             for shown in shown(random, page, da4s) {
                 one_header(pair, awaiting, &shown)?;
@@ -328,15 +338,19 @@ fn one_header(pair: &mut Pair, awaiting: [u8; STATE_BYTES], shown: &Shown) -> Sa
     hold(told(&next) == [REFUSED, ALREADY_ENDED, 0, NONE], || what(&next))
 }
 
-/// Of an acknowledgement only the generation is judged, and a chunk and a refused header not at all: no ending of theirs has a field.
+/// Of an acknowledgement only the generation is judged, and a chunk and a refused header not at all: no ending of theirs has a field. Nor is the
+/// header judged that an old run reads together with its blocks: the copy gets these, and what follows is the closing header.
 fn unjudged(pair: &mut Pair, random: &mut Random, setup: Setup) -> Same<()> {
     for shown in shown(random, setup.page, setup.caps & DA4S != 0) {
         let mut copy = vec![0xDD; BLOCK];
         let [mut acknowledged, mut chunk, mut refused] =
             [4, 1, 0].map(|phase| header_state(setup, phase, 1, shown.header[383], [1, 1, 1, 1]));
         chunk[20] = 1;
-        let next = pair.step(&mut chunk, 1, &shown.header, &mut copy)?;
-        hold(told(&next) == [0; 4], || format!("a chunk: {next:?}"))?;
+        let block = random.bytes(BLOCK);
+        let header_and_block = [&shown.header[..], &block].concat();
+        let data = if is_old(setup.caps) { &header_and_block } else { &block };
+        let next = pair.step(&mut chunk, 1, data, &mut copy)?;
+        hold(told(&next) == [0; 4] && chunk[0] == 2 && copy == block, || format!("a chunk: {next:?}"))?;
         let next = pair.step(&mut refused, 0, &[], &mut copy.clone())?;
         hold(told(&next) == [ENDED, BROKE_ITS_WORD, 0, NONE], || format!("a refused header: {next:?}"))?;
         let next = pair.step(&mut acknowledged, 1, &shown.header, &mut copy)?;
@@ -402,11 +416,11 @@ pub fn near_limits(pair: &mut Pair, random: &mut Random) -> Same<()> {
     if random.chance(10) {
         header.resize(random.pick(&[0, 1, 511, 513, 1_024]), page);
     }
-    let (answer, planned) = pair.plan(Wanted::largest(asked, caps(random, da4s)), &header)?;
+    let caps = caps(random, da4s);
+    let (answer, planned) = pair.plan(Wanted::largest(asked, caps), &header)?;
     let good = is_good(asked, da4s, &header);
     let due = match asked {
-        _ if good && asked == CONTROLLER_PAGE && header[382] == 0 => NOTHING,
-        _ if good => SUCCESS,
+        _ if good => answer_to_good(asked, caps, &header),
         HOST_PAGE | CONTROLLER_PAGE => BAD_HEADER,
         _ => BAD_SETUP,
     };

@@ -54,6 +54,26 @@ pub fn caps(random: &mut Random) -> u8 {
     caps
 }
 
+/// Whether a drive of these capabilities is collected in an old run: it has no extended data.
+pub fn is_old(caps: u8) -> bool {
+    caps & EXTENDED == 0
+}
+
+/// Blocks a command: one of these, or for an old run 0, since it takes none.
+pub fn chunk(random: &mut Random, caps: u8, from: &[u32]) -> u32 {
+    let chunk = random.pick(from);
+    if is_old(caps) {
+        0
+    } else {
+        chunk
+    }
+}
+
+/// How large areas are at most where no block past 31 is reached: a good share of them are about so large.
+fn old_scale(random: &mut Random) -> u32 {
+    random.pick(&[1, 3, 5, 5, 5, 12, 12, 31, 33, 33, 40, 64])
+}
+
 /// How large areas are at most: mostly a few blocks, now and then so many that a count needs CDW11.
 pub fn scale(random: &mut Random) -> u32 {
     match random.up_to(399) {
@@ -71,6 +91,24 @@ pub fn last_blocks(random: &mut Random, da4s: bool, most: u32) -> LastBlocks {
     let [a1, a2, a3] = areas;
     let a4 = if da4s && a3 > 0 { a3 + random.up_to(most) } else { 0 };
     [a1, a2, a3, a4]
+}
+
+/// Last blocks that keep the rules, the last of this area being this one.
+pub fn last_with(random: &mut Random, da4s: bool, area: u8, blocks: u32) -> LastBlocks {
+    let mut last = [blocks; 4];
+    for index in (0..area as usize - 1).rev() {
+        last[index] = random.up_to(last[index + 1]);
+    }
+    if area == 4 {
+        last[2] = last[2].max(blocks.min(1));
+    }
+    for index in area as usize..4 {
+        last[index] = last[index - 1] + random.up_to(2);
+    }
+    if !da4s || last[2] == 0 {
+        last[3] = 0;
+    }
+    last
 }
 
 fn generation(random: &mut Random) -> u8 {
@@ -91,7 +129,7 @@ fn store(random: &mut Random, last: LastBlocks, most: u32) -> Vec<u8> {
 
 /// A record that agrees with its stores.
 pub fn world(random: &mut Random, caps: u8) -> World {
-    let most = scale(random);
+    let most = if is_old(caps) { old_scale(random) } else { scale(random) };
     let da4s = caps & DA4S != 0;
     let host_last = last_blocks(random, da4s, most);
     let mut controller_last = last_blocks(random, da4s, most);
@@ -268,7 +306,7 @@ pub fn header(random: &mut Random, page: u8, last: LastBlocks) -> Vec<u8> {
 
 /// Last blocks as a header may show them: up to the edges, since no store stands behind them.
 pub fn header_last(random: &mut Random, da4s: bool) -> LastBlocks {
-    let edge = random.pick(&[3, 12, 300, 65_534, 65_535]);
+    let edge = random.pick(&[3, 12, 31, 33, 300, 65_534, 65_535]);
     let [a1, a2, a3, a4] = last_blocks(random, da4s, edge);
     let a3 = if random.chance(20) { 65_535 } else { a3 };
     let a4 = match random.up_to(5) {

@@ -1,11 +1,15 @@
 //! The host side: header check, plan, command builder and the collection.
-//! Written from document 01, section "Host: header check and collection", and document 02, Q-1, Q-2, Q-4 and Q-14.
+//! Written from document 01, section "Host: header check and collection", and document 02, Q-1, Q-2, Q-4, Q-10 and Q-14.
 
 use crate::rules::*;
 
 /// The greatest number of blocks in a command.
 pub const CHUNK_LIMIT: u32 = 8_192;
 pub const ATTEMPTS_LIMIT: u32 = 65_535;
+/// Dwords that a drive without extended data sends at most.
+const OLD_DWORDS: u32 = 4_096;
+/// The last block that one command from offset 0 reaches on such a drive: of its blocks, 128 dwords each, the header is one.
+const OLD_REACH: u32 = OLD_DWORDS / 128 - 1;
 /// The greatest number of bytes of a copy.
 pub const ROOM_LIMIT: u64 = 536_870_912;
 
@@ -150,7 +154,7 @@ pub struct Plan {
     /// the wanted area, w
     pub area: u8,
     pub capabilities: Capabilities,
-    /// blocks a command, c
+    /// blocks a command, c; 0 in an old run
     pub chunk: u32,
     pub attempts: u32,
     /// bytes of the copy
@@ -163,8 +167,10 @@ pub enum Awaited {
     FirstHeader,
     /// of the chunk that starts at this block
     Chunk(u32),
+    /// in an old run, of the middle command, which reads header and blocks together
+    HeaderAndBlocks,
     ClosingHeader,
-    /// the header that follows a refused chunk
+    /// the header that follows a refused chunk or middle command
     HeaderAfterRefusal,
     Acknowledgement,
     Nothing,
@@ -199,16 +205,40 @@ pub enum Outcome {
 }
 
 impl Plan {
+    /// A run from a drive without extended data is one of its own.
+    fn is_old(&self) -> bool {
+        !self.capabilities.extended
+    }
+
+    /// An old run takes no c, which is then 0.
+    fn chunk_is_good(&self) -> bool {
+        if self.is_old() {
+            self.chunk == 0
+        } else {
+            1 <= self.chunk && self.chunk <= CHUNK_LIMIT
+        }
+    }
+
+    /// What speaks against an area of so many blocks: 19, where no command of an old run reaches its end; then 8, no room.
+    fn area_refusal(&self, wanted: u32) -> Option<u8> {
+        if self.is_old() && wanted > OLD_REACH {
+            return Some(OUT_OF_REACH);
+        }
+        if bytes_of(wanted) > self.room {
+            return Some(NO_ROOM);
+        }
+        None
+    }
+
     /// Setup's limits: 13, then 6.
     fn refusal(&self) -> Option<u8> {
         let good = (self.page == HOST_PAGE || self.page == CONTROLLER_PAGE)
             && !(self.create && self.page == CONTROLLER_PAGE)
             && (1..=4).contains(&self.area)
-            && (1..=CHUNK_LIMIT).contains(&self.chunk)
+            && self.chunk_is_good()
             && (1..=ATTEMPTS_LIMIT).contains(&self.attempts)
             && self.room <= ROOM_LIMIT
             && self.room % 512 == 0
-            && self.capabilities.extended
             && self.capabilities.telemetry;
         if !good {
             return Some(BAD_SETUP);
@@ -228,7 +258,7 @@ pub struct Planned {
 }
 
 /// The header check and the first plan in one. Refusals: 13 and 6 by setup's limits, of which those of create and attempts do not apply, since
-/// neither is asked for; then, as at a first header, 7 with what is at fault, 11, 8.
+/// neither is asked for; then, as at a first header, 7 with what is at fault, 11, 19, 8.
 pub fn plan_from_header(
     page: u8,
     header: &[u8],
@@ -246,8 +276,12 @@ pub fn plan_from_header(
         return Err((NOTHING, None));
     }
     let wanted = fields.last[area as usize - 1];
-    if bytes_of(wanted) > room {
-        return Err((NO_ROOM, None));
+    if let Some(answer) = plan.area_refusal(wanted) {
+        return Err((answer, None));
+    }
+    if plan.is_old() {
+        // The middle command, which an area without blocks does not need.
+        return Ok(Planned { fields, chunks: if wanted == 0 { 0 } else { 1 } });
     }
     // The blocks that stand before each chunk.
     let chunk_list = (0..wanted).step_by(chunk as usize);
@@ -286,6 +320,7 @@ impl Collection {
                 build_words(page, self.plan.create, mcda, true, 0, 1)
             }
             Awaited::Chunk(at) => build_words(page, false, 0, true, at, self.chunk_blocks(at)),
+            Awaited::HeaderAndBlocks => build_words(page, false, 0, true, 0, 1 + self.wanted_blocks()),
             Awaited::ClosingHeader | Awaited::HeaderAfterRefusal => build_words(page, false, 0, true, 0, 1),
             Awaited::Acknowledgement => build_words(page, false, 0, false, 0, 1),
             Awaited::Nothing => Some([0; 5]),
@@ -320,9 +355,11 @@ impl Collection {
         }
         let attempt_is_bad = self.attempt < 1 || self.attempt > self.plan.attempts;
         let count_is_bad = self.count > 2 + self.plan.attempts as u64 * 1_048_577;
-        let area_is_bad = bytes_of(self.wanted_blocks()) > self.plan.room;
+        let area_is_bad = self.plan.area_refusal(self.wanted_blocks()).is_some();
         let chunk_is_bad = match self.awaited {
-            Awaited::Chunk(at) => at < 1 || at > self.wanted_blocks(),
+            // An old run has no chunks but the middle command.
+            Awaited::Chunk(at) => at < 1 || at > self.wanted_blocks() || self.plan.is_old(),
+            Awaited::HeaderAndBlocks => self.wanted_blocks() == 0,
             _ => false,
         };
         attempt_is_bad || count_is_bad || area_is_bad || chunk_is_bad
@@ -332,6 +369,7 @@ impl Collection {
     fn awaited_bytes(&self) -> u64 {
         match self.awaited {
             Awaited::Chunk(at) => bytes_of(self.chunk_blocks(at)),
+            Awaited::HeaderAndBlocks => 512 + bytes_of(self.wanted_blocks()),
             _ => 512,
         }
     }
@@ -349,8 +387,9 @@ impl Collection {
             return Outcome::Refused(DOES_NOT_FIT);
         }
         match self.awaited {
-            Awaited::Chunk(_) if !ok => self.send(Awaited::HeaderAfterRefusal),
+            Awaited::Chunk(_) | Awaited::HeaderAndBlocks if !ok => self.send(Awaited::HeaderAfterRefusal),
             Awaited::Chunk(at) => self.take_chunk(at, data, copy),
+            Awaited::HeaderAndBlocks => self.take_header_and_blocks(data, copy),
             _ if !ok => self.end(BROKE_ITS_WORD, false, copy),
             Awaited::FirstHeader => self.take_first_header(data, copy),
             Awaited::Acknowledgement => {
@@ -372,11 +411,18 @@ impl Collection {
         }
     }
 
+    /// The middle command of an old run: its header is not judged, whatever it is, and its blocks are the copy's first.
+    fn take_header_and_blocks(&mut self, data: &[u8], copy: &mut [u8]) -> Outcome {
+        let (_, blocks) = data.split_at(BLOCK);
+        copy[..blocks.len()].copy_from_slice(blocks);
+        self.send(Awaited::ClosingHeader)
+    }
+
     fn check(&self, data: &[u8]) -> Result<Fields, Fault> {
         check_header(self.plan.page, self.plan.capabilities.da4s, data)
     }
 
-    /// Order at a first header: 7, 11, 8.
+    /// Order at a first header: 7, 11, 19, 8.
     fn take_first_header(&mut self, data: &[u8], copy: &mut [u8]) -> Outcome {
         let fields = match self.check(data) {
             Ok(fields) => fields,
@@ -393,7 +439,7 @@ impl Collection {
         data[generation_byte(self.plan.page)] == self.generation && fields.last == self.last
     }
 
-    /// Order at a later header: 7, 10, then on mismatch 9, else 8.
+    /// Order at a later header: 7, 10, then on mismatch 9, else 19, 8.
     fn take_later_header(&mut self, data: &[u8], copy: &mut [u8]) -> Outcome {
         let fields = match self.check(data) {
             Ok(fields) => fields,
@@ -418,16 +464,18 @@ impl Collection {
         self.open_attempt(data, &fields, copy)
     }
 
-    /// A header opens an attempt if the copy has room for its wanted area (8).
+    /// A header opens an attempt if its wanted area is in reach (19) and the copy has room for it (8).
     fn open_attempt(&mut self, data: &[u8], fields: &Fields, copy: &mut [u8]) -> Outcome {
         let wanted = fields.last[self.plan.area as usize - 1];
-        if bytes_of(wanted) > self.plan.room {
-            return self.end(NO_ROOM, false, copy);
+        if let Some(answer) = self.plan.area_refusal(wanted) {
+            return self.end(answer, false, copy);
         }
         self.generation = data[generation_byte(self.plan.page)];
         self.last = fields.last;
         if wanted == 0 {
             self.send(Awaited::ClosingHeader)
+        } else if self.plan.is_old() {
+            self.send(Awaited::HeaderAndBlocks)
         } else {
             self.send(Awaited::Chunk(1))
         }

@@ -1,7 +1,7 @@
 //! Orders of refusals: inputs that break several rules at once. Which answer is due follows here from document 01's list and document 02's
 //! additions to it alone, so these cases are a third opinion on the order.
 
-use crate::boundary::{put_u32, put_u64, Setup, SEND, STATE_BYTES};
+use crate::boundary::{get_u32, put_u32, put_u64, Setup, SEND, STATE_BYTES};
 use crate::generate::{self, at, DA4S, ETDAS, EXTENDED, MCDAS, TELEMETRY};
 use crate::pair::{Difference, Offer, Pair, Same, World};
 use crate::random::Random;
@@ -186,14 +186,13 @@ pub fn setups(pair: &mut Pair, random: &mut Random) -> Same<()> {
         setup.caps &= !random.pick(&[DA4S, ETDAS, DA4S | ETDAS]);
     }
     if bad {
-        match random.up_to(7) {
+        match random.up_to(6) {
             0 => setup.page = random.pick(&[6, 9]),
             1 => (setup.page, setup.create) = (CONTROLLER_PAGE, 1),
-            2 => setup.chunk = random.pick(&[0, 8_193]),
+            2 => singles::mismatch_chunk(random, &mut setup.caps, &mut setup.chunk),
             3 => setup.attempts = random.pick(&[0, 65_536]),
             4 => setup.room = random.pick(&[1, 513, 536_871_424]),
-            5 => setup.caps &= !EXTENDED,
-            6 => setup.caps &= !TELEMETRY,
+            5 => setup.caps &= !TELEMETRY,
             _ => setup.area = random.pick(&[0, 5]),
         }
     }
@@ -222,35 +221,60 @@ pub fn header_state(setup: Setup, phase: u8, attempt: u32, generation: u8, last:
 /// A plan whose copy has `blocks` blocks.
 pub fn small_setup(random: &mut Random, blocks: u64) -> Setup {
     let setup = singles::good_setup(random);
-    Setup { room: 512 * blocks, chunk: random.pick(&[1, 2, 3, 5, 8_192]), ..setup }
+    Setup { room: 512 * blocks, chunk: generate::chunk(random, setup.caps, &[1, 2, 3, 5, 8_192]), ..setup }
+}
+
+/// Makes a state that holds the areas (1,1,2,3) a bad one. Without extended data an area past block 31 is bad in any phase and any room, and a
+/// chunk at any block but 1.
+fn break_state(random: &mut Random, setup: Setup, state: &mut [u8; STATE_BYTES]) {
+    let (old, chunk) = (generate::is_old(setup.caps), state[0] == 1);
+    match random.up_to(8) {
+        0 => state[1] = 9,
+        1 => state[3] = random.pick(&[0, 5]),
+        2 => put_u32(state, 16, random.pick(&[0, setup.attempts + 1])),
+        3 => put_u64(state, 32, 3 + setup.attempts as u64 * 1_048_577),
+        4 if old => generate::put_last(state, 40, [random.pick(&[32, 33, 40, 1 << 20]); 4]),
+        5 if old && chunk => put_u32(state, 20, random.pick(&[0, 2, 3, 31, u32::MAX])),
+        5 if chunk => put_u32(state, 20, random.pick(&[0, 4, 5, u32::MAX])),
+        6 => generate::put_last(state, 40, [(setup.room / 512) as u32 + 1; 4]),
+        7 if chunk => generate::put_last(state, 40, [0; 4]),
+        _ => {
+            let (mut caps, mut chunk) = (state[4], setup.chunk);
+            singles::mismatch_chunk(random, &mut caps, &mut chunk);
+            state[4] = caps;
+            put_u32(state, 8, chunk);
+        }
+    }
 }
 
 /// 14, 13, 15.
 pub fn steps(pair: &mut Pair, random: &mut Random) -> Same<()> {
-    let setup = small_setup(random, 4);
+    let blocks = random.pick(&[4, 40]);
+    let setup = small_setup(random, blocks as u64);
     let [ended, bad, unfit] = [(); 3].map(|()| random.chance(50));
-    let mut state = header_state(setup, random.pick(&[0, 2, 3, 4]), setup.attempts, 9, [0, 1, 2, 3]);
+    let (phase, last) = (random.pick(&[0, 1, 1, 2, 3, 4]), [1, 1, 2, 3]);
+    let mut state = header_state(setup, phase, setup.attempts, 9, last);
     let mut data = generate::header(random, setup.page, [1, 1, 2, 0]);
-    let mut copy = random.bytes(4 * BLOCK);
+    if phase == 1 {
+        put_u32(&mut state, 20, 1);
+        let wanted = last[setup.area as usize - 1];
+        let due = if generate::is_old(setup.caps) { 1 + wanted } else { wanted.min(setup.chunk) };
+        data = random.bytes(due as usize * BLOCK);
+    }
+    let mut copy = random.bytes(blocks * BLOCK);
     if bad {
-        match random.up_to(5) {
-            0 => state[1] = 9,
-            1 => state[3] = random.pick(&[0, 5]),
-            2 => put_u32(&mut state, 16, random.pick(&[0, setup.attempts + 1])),
-            3 => put_u64(&mut state, 32, 3 + setup.attempts as u64 * 1_048_577),
-            4 => generate::put_last(&mut state, 40, [5; 4]),
-            _ => put_u32(&mut state, 8, 0),
-        }
+        break_state(random, setup, &mut state);
     }
     if unfit {
         match random.up_to(2) {
-            0 => data.truncate(random.pick(&[0, 511])),
+            0 => data.truncate(random.pick(&[0, 511, data.len() - 1, data.len() - BLOCK])),
             1 => copy.truncate(random.pick(&[0, 512, 2_047])),
             _ => copy.extend([1; BLOCK]),
         }
     }
     if ended {
         state[0] = 5;
+        put_u32(&mut state, 20, 0);
     }
     let due = first(&[(ALREADY_ENDED, ended), (BAD_SETUP, bad), (DOES_NOT_FIT, unfit)]);
     let next = pair.step(&mut state, 1, &data, &mut copy)?;
@@ -282,12 +306,27 @@ fn plain_header(random: &mut Random, setup: Setup, last: LastBlocks, generation:
     header
 }
 
-/// At a first header: 7, 11, 8.
+/// The last block of a header's wanted area, past block 31 or not, and a copy's room in blocks, at least one and less than that or not.
+fn area_and_room(random: &mut Random, far: bool, large: bool) -> (u32, u32) {
+    let blocks = if far { random.pick(&[32, 32, 33, 64, 300]) } else { random.pick(&[2, 3, 30, 31, 31]) };
+    let room = if large { random.pick(&[1, blocks / 2, blocks - 1]) } else { blocks + random.pick(&[0, 0, 1, 5]) };
+    (blocks, room)
+}
+
+/// At a first header: 7, 11, 19, 8.
 pub fn first_headers(pair: &mut Pair, random: &mut Random) -> Same<()> {
-    let setup = small_setup(random, 4);
-    let [bad, nothing, large] = [(); 3].map(|()| random.chance(50));
+    let setup = small_setup(random, 0);
+    let holds = [(); 4].map(|()| random.chance(50));
+    first_header(pair, random, setup, holds)
+}
+
+/// A first header for which just these hold: it is bad, shows no data available, its area is past block 31, its area is larger than the copy.
+/// With extended data there is no 19.
+fn first_header(pair: &mut Pair, random: &mut Random, setup: Setup, holds: [bool; 4]) -> Same<()> {
+    let [bad, nothing, far, large] = holds;
+    let (blocks, room) = area_and_room(random, far, large);
+    let setup = Setup { room: bytes_of(room), ..setup };
     let mut state = header_state(setup, 0, 1, 0, [0; 4]);
-    let blocks = if large { 5 + random.up_to(300) } else { 1 + random.up_to(3) };
     let generation = random.byte();
     let mut header = plain_header(random, setup, even_last(setup, blocks), generation);
     if nothing {
@@ -296,25 +335,35 @@ pub fn first_headers(pair: &mut Pair, random: &mut Random) -> Same<()> {
     if bad {
         break_header(random, setup.page, &mut header);
     }
-    let mut copy = random.bytes(4 * BLOCK);
+    let mut copy = random.bytes(setup.room as usize);
     let next = pair.step(&mut state, 1, &header, &mut copy)?;
     let nothing = nothing && setup.page == CONTROLLER_PAGE;
-    let due = first(&[(BAD_HEADER, bad), (NOTHING, nothing), (NO_ROOM, large)]);
-    expect("order at a first header", due, next[1])
+    let far = far && generate::is_old(setup.caps);
+    let due = first(&[(BAD_HEADER, bad), (NOTHING, nothing), (OUT_OF_REACH, far), (NO_ROOM, large)]);
+    expect("order at a first header", due, next[1])?;
+    expect("the attempt after a first header", 1, get_u32(&state, 16) as u8)
 }
 
-/// At a later header: 7, 10, then on mismatch 9, else 8; on a match after a refused chunk 12.
+/// At a later header: 7, 10, then on mismatch 9, else 19, 8; on a match after a refused chunk 12.
 pub fn later_headers(pair: &mut Pair, random: &mut Random) -> Same<()> {
-    let mut setup = small_setup(random, 4);
-    setup.attempts = setup.attempts.max(2);
-    let [bad, withdrawn, captured, used_up, large] = [(); 5].map(|()| random.chance(50));
+    let setup = small_setup(random, 0);
     let phase = random.pick(&[2, 3]);
+    let holds = [(); 6].map(|()| random.chance(50));
+    later_header(pair, random, setup, phase, holds)
+}
+
+/// A later header for which just these hold: it is bad, shows no data available, its generation is another, no attempt is left, its area is past
+/// block 31, its area is larger than the copy. The attempt's own area is not larger, nor in an old run past block 31, so these make a mismatch.
+fn later_header(pair: &mut Pair, random: &mut Random, setup: Setup, phase: u8, holds: [bool; 6]) -> Same<()> {
+    let [bad, withdrawn, captured, used_up, far, large] = holds;
+    let (blocks, room) = area_and_room(random, far, large);
+    let setup = Setup { room: bytes_of(room), attempts: setup.attempts.max(2), ..setup };
+    let far = far && generate::is_old(setup.caps);
     let attempt = if used_up { setup.attempts } else { 1 + random.up_to(setup.attempts - 2) };
     let generation = random.byte();
-    let held = 1 + random.up_to(3);
+    let small = 1 + random.up_to(room.min(31) - 1);
+    let held = if far || large { small } else { random.pick(&[blocks, blocks, small]) };
     let mut state = header_state(setup, phase, attempt, generation, even_last(setup, held));
-    let small = 1 + random.up_to(3);
-    let blocks = if large { 5 + random.up_to(300) } else { random.pick(&[held, held, small]) };
     let mismatch = captured || blocks != held;
     let shown = generation.wrapping_add(captured as u8 * random.pick(&[1, 255, 128]));
     let mut header = plain_header(random, setup, even_last(setup, blocks), shown);
@@ -324,18 +373,41 @@ pub fn later_headers(pair: &mut Pair, random: &mut Random) -> Same<()> {
     if bad {
         break_header(random, setup.page, &mut header);
     }
-    let mut copy = random.bytes(4 * BLOCK);
+    let mut copy = random.bytes(setup.room as usize);
     let next = pair.step(&mut state, 1, &header, &mut copy)?;
     let due = first(&[
         (BAD_HEADER, bad),
         (WITHDRAWN, withdrawn && setup.page == CONTROLLER_PAGE),
         (BROKE_ITS_WORD, !mismatch && phase == 3),
         (ATTEMPTS_USED_UP, mismatch && used_up),
+        (OUT_OF_REACH, mismatch && far),
         (NO_ROOM, mismatch && large),
     ]);
     expect("order at a later header", due, next[1])?;
     let goes_on = due == SUCCESS && (mismatch || setup.page == CONTROLLER_PAGE);
-    expect("whether a later header is followed by a command", goes_on as u8, (next[0] == SEND) as u8)
+    expect("whether a later header is followed by a command", goes_on as u8, (next[0] == SEND) as u8)?;
+    let is_next = (due == SUCCESS && mismatch) || [OUT_OF_REACH, NO_ROOM].contains(&due);
+    let moved = get_u32(&state, 16) - attempt;
+    expect("whether a later header is the next attempt's", is_next as u8, moved as u8)
+}
+
+/// Every set of what can hold at a first header and at a later one, each some times and in other ways, on both pages, with extended data and
+/// without.
+pub fn headers(pair: &mut Pair, random: &mut Random) -> Same<()> {
+    for (page, old) in [(HOST_PAGE, false), (HOST_PAGE, true), (CONTROLLER_PAGE, false), (CONTROLLER_PAGE, true)] {
+        for turn in 0..64 * 40 {
+            let mut setup = small_setup(random, 0);
+            while setup.page != page || generate::is_old(setup.caps) != old {
+                setup = small_setup(random, 0);
+            }
+            let [bad, nothing, captured, used_up, far, large] = [1, 2, 4, 8, 16, 32].map(|bit| turn & bit != 0);
+            first_header(pair, random, setup, [bad, nothing, far, large])?;
+            for phase in [2, 3] {
+                later_header(pair, random, setup, phase, [bad, nothing, captured, used_up, far, large])?;
+            }
+        }
+    }
+    Ok(())
 }
 
 /// What alone differs between the attempt's header and a later one.

@@ -1,7 +1,9 @@
 //! Vectors from outside: the rows and the listing of document 01, the stories of document 02, and tables of documents 000 to 004, typed in
 //! from there. Each check holds the pair to the table, so it is an opinion that neither the library nor the second opinion had a hand in.
 
-use crate::boundary::{get_u32, get_u64, put_u64, Setup, Wanted, ENDED, PLANNED_BYTES, RECORD_BYTES, REFUSED, SEND};
+use crate::boundary::{
+    get_u32, get_u64, put_u64, Setup, Wanted, ENDED, PLANNED_BYTES, RECORD_BYTES, REFUSED, SEND, STATE_BYTES,
+};
 use crate::generate::{self, asked_bytes, at, DA4S, ETDAS, EXTENDED, MCDAS, TELEMETRY};
 use crate::orders::header_state;
 use crate::pair::{hex, Difference, Offer, Pair, Same, World};
@@ -684,6 +686,240 @@ pub fn check_and_plan(pair: &mut Pair, _: &mut Random) -> Same<()> {
         hold((answer, get_u32(&planned, 156)) == due, &format!("{row}: {due:?}"))?;
         let silent = planned[..5] == [0; 5] && planned[8..] == [0; PLANNED_BYTES - 8];
         hold(silent == (answer != 0) && (planned[5..8] == [0; 3]) == (answer != 7), &format!("{row}: what is told"))?;
+    }
+    Ok(())
+}
+
+/// A drive without extended data that shows the same areas on both pages.
+fn old_drive(last: LastBlocks) -> World {
+    let mut world = drive(TELEMETRY, last);
+    generate::put_last(&mut world.record, at::CONTROLLER_LAST, last);
+    world.record[at::AVAILABLE] = (last[2] > 0) as u8;
+    World { host_store: numbered(40, 0x00), controller_store: numbered(40, 0x80), ..world }
+}
+
+/// A row of an old run: the last block of area 3, the room in blocks, the middle command's CDW10 but for the page or 0, and the ending.
+type OldRow = (u32, u64, u32, u8);
+
+/// Document 02, Q-10: "the header, then header and blocks together from offset 0, at most 31 blocks, then the header, all with RAE 1; on 08h the
+/// acknowledgement follows as before. B = 0 skips the middle command." "19, wanted area past block 31, just before 8 at any header".
+pub fn old_drives(pair: &mut Pair, _: &mut Random) -> Same<()> {
+    let rows: [OldRow; 14] = [
+        (0, 0, 0, 0),
+        (0, 9, 0, 0),
+        (1, 1, 0x00FF_8000, 0),
+        (1, 9, 0x00FF_8000, 0),
+        (30, 31, 0x0F7F_8000, 0),
+        (31, 31, 0x0FFF_8000, 0),
+        (31, 40, 0x0FFF_8000, 0),
+        (31, 30, 0, 8),
+        (20, 10, 0, 8),
+        (1, 0, 0, 8),
+        (32, 31, 0, 19),
+        (32, 32, 0, 19),
+        (33, 40, 0, 19),
+        (32, 0, 0, 19),
+    ];
+    for page in [7, 8] {
+        rows.into_iter().try_for_each(|row| old_run(pair, page, row))?;
+        old_middles(pair, page)?;
+        old_closings(pair, page)?;
+    }
+    old_setups(pair)?;
+    old_states(pair)
+}
+
+/// One row of old runs. Page 08h has data only with a block in area 3, so an area of no block is area 1 of it.
+fn old_run(pair: &mut Pair, page: u8, (blocks, room, middle, answer): OldRow) -> Same<()> {
+    let (area, last) = if blocks == 0 { (1, [0, 1, 1, 0]) } else { (3, [0, 0, blocks, 0]) };
+    let setup = Setup { page, create: 0, area, caps: TELEMETRY, chunk: 0, attempts: 2, room: 512 * room };
+    let (sent, given, count, copy) = collect(pair, &mut old_drive(last), setup, |_, _, _| Ok(()))?;
+    let (goes_on, header) = (answer == 0, 0x007F_8000);
+    let listing = [
+        (true, header),
+        (goes_on && blocks > 0, middle),
+        (goes_on, header),
+        (goes_on && page == 8, 0x007F_0000), // RAE 0
+    ];
+    let due: Vec<Words> = listing
+        .into_iter()
+        .filter(|(is_sent, _)| *is_sent)
+        .map(|(_, cdw10)| [cdw10 | page as u32, 0, 0, 0, 0])
+        .collect();
+    let row = format!("0{page}h, B = {blocks}, room of {room} blocks");
+    hold(sent == due, &format!("{row}: {sent:08X?}"))?;
+    hold((given, count) == (answer, sent.len() as u64), &format!("{row}: ending {answer}"))?;
+    let base = if page == 7 { 0x00 } else { 0x80 };
+    let mut area = if goes_on { numbered(blocks as u8, base) } else { Vec::new() };
+    area.resize(room as usize * BLOCK, 0);
+    hold(copy == area, &format!("{row}: the copy"))
+}
+
+/// "Setup takes no c (0 in a transcript) and extended data must be off", "13 if extended data is on". Area 4 is as it was.
+fn old_setups(pair: &mut Pair) -> Same<()> {
+    let new = EXTENDED | TELEMETRY;
+    let rows: [(u8, u8, u32, u8); 19] = [
+        // capabilities, wanted area, c, the answer
+        (TELEMETRY, 3, 0, 0),
+        (TELEMETRY, 1, 0, 0),
+        (TELEMETRY | MCDAS, 3, 0, 0),
+        (TELEMETRY | DA4S, 3, 0, 0),
+        (TELEMETRY, 3, 1, 13),
+        (TELEMETRY, 3, 31, 13),
+        (TELEMETRY, 3, 8_192, 13),
+        (TELEMETRY, 3, 8_193, 13),
+        (TELEMETRY, 3, u32::MAX, 13),
+        (new, 3, 0, 13),
+        (new, 3, 1, 0),
+        (new, 3, 8_192, 0),
+        (0, 3, 0, 13),
+        (EXTENDED, 3, 1, 13),
+        (TELEMETRY, 4, 0, 6),
+        (TELEMETRY | DA4S, 4, 0, 6),
+        (TELEMETRY | ETDAS, 4, 0, 6),
+        (TELEMETRY | DA4S | ETDAS, 4, 0, 0),
+        (TELEMETRY, 4, 1, 13),
+    ];
+    let mut header = vec![0; 512];
+    header[0] = 7;
+    for (caps, area, chunk, answer) in rows {
+        let setup = Setup { page: 7, create: 1, area, caps, chunk, attempts: 1, room: 512 };
+        let (_, next) = pair.setup(setup)?;
+        let kind = if answer == 0 { SEND } else { REFUSED };
+        hold(next[..2] == [kind, answer], &format!("{setup:?}: {answer}"))?;
+        let given = pair.plan(setup.wanted(), &header)?.0;
+        hold(given == answer, &format!("a plan of {setup:?}: {answer}"))?;
+    }
+    Ok(())
+}
+
+/// A state of an old run is bad where its area is past block 31, whatever it awaits, where its chunk starts at another block than 1 or outside the
+/// area, and where setup's limits are broken. Its middle command brings the header and B blocks, and no other data fits.
+fn old_states(pair: &mut Pair) -> Same<()> {
+    let setup = Setup { page: 7, create: 0, area: 3, caps: TELEMETRY, chunk: 0, attempts: 2, room: 40 * 512 };
+    for (phase, blocks) in (0..=5).flat_map(|phase| [31, 32, 40].map(|blocks| (phase, blocks))) {
+        let mut state = header_state(setup, phase, 1, 9, [0, 0, blocks, 0]);
+        state[20] = (phase == 1) as u8;
+        let (next, ended) = (pair.step(&mut state, 0, &[], &mut vec![0xDD; 40 * BLOCK])?, phase == 5);
+        let refusal = if ended { 14 } else { 13 };
+        let due = ended || blocks > 31;
+        hold((next[..2] == [REFUSED, refusal]) == due, &format!("a state in phase {phase} with B = {blocks}"))?;
+    }
+    for at in [0, 1, 2, 3, 31, 32, u32::MAX] {
+        let mut state = header_state(setup, 1, 1, 9, [0, 0, 31, 0]);
+        state[20..24].copy_from_slice(&at.to_le_bytes());
+        let next = pair.step(&mut state, 1, &[7; 32 * BLOCK], &mut vec![0xDD; 40 * BLOCK])?;
+        let due = if at == 1 { [SEND, 0] } else { [REFUSED, 13] };
+        hold(next[..2] == due, &format!("a state whose chunk starts at block {at}: {due:?}"))?;
+    }
+    // Capabilities, c, the area's last block, blocks of data, and the answer, or 0 for a command.
+    let rows = [
+        (TELEMETRY, 0, 3, 4, 0),
+        (TELEMETRY, 0, 3, 3, 15),
+        (TELEMETRY, 0, 3, 5, 15),
+        (TELEMETRY, 0, 3, 0, 15),
+        (TELEMETRY, 0, 0, 1, 13),
+        (TELEMETRY, 1, 3, 4, 13),
+        (TELEMETRY, 31, 3, 4, 13),
+        (EXTENDED | TELEMETRY, 0, 3, 4, 13),
+        (EXTENDED | TELEMETRY, 31, 3, 4, 15),
+        (EXTENDED | TELEMETRY, 31, 3, 3, 0),
+        (EXTENDED | TELEMETRY, 31, 40, 31, 0),
+        (0, 0, 3, 4, 13),
+    ];
+    for (caps, chunk, blocks, given, answer) in rows {
+        let mut state = header_state(Setup { caps, chunk, ..setup }, 1, 1, 9, [0, 0, blocks, 0]);
+        state[20] = 1;
+        let next = pair.step(&mut state, 1, &vec![7; given * BLOCK], &mut vec![0xDD; 40 * BLOCK])?;
+        let due = [if answer == 0 { SEND } else { REFUSED }, answer];
+        hold(next[..2] == due, &format!("caps {caps}, c = {chunk}, B = {blocks}, {given} blocks of data: {due:?}"))?;
+    }
+    Ok(())
+}
+
+/// A header of an old drive with data available, so many blocks in area 3 and this generation of its page.
+fn old_header(page: u8, blocks: u8, generation: u8) -> Vec<u8> {
+    let mut header = vec![0; BLOCK];
+    (header[0], header[12], header[382]) = (page, blocks, 1);
+    header[if page == 7 { 381 } else { 383 }] = generation;
+    header
+}
+
+/// An old run of two blocks into four: its state and copy after the first header and the middle command, whose header this is, or which is
+/// refused.
+fn after_middle(pair: &mut Pair, page: u8, attempts: u32, middle: Option<&[u8]>) -> Same<([u8; STATE_BYTES], Vec<u8>)> {
+    let setup = Setup { page, create: 0, area: 3, caps: TELEMETRY, chunk: 0, attempts, room: 4 * 512 };
+    let (mut state, _) = pair.setup(setup)?;
+    let mut copy = vec![0xDD; 4 * BLOCK];
+    pair.step(&mut state, 1, &old_header(page, 2, 5), &mut copy)?;
+    match middle {
+        Some(middle) => pair.step(&mut state, 1, &[middle, &numbered(2, 0x40)].concat(), &mut copy)?,
+        None => pair.step(&mut state, 0, &[], &mut copy)?,
+    };
+    Ok((state, copy))
+}
+
+/// "The middle command's own header is not judged, only the last one."
+fn old_middles(pair: &mut Pair, page: u8) -> Same<()> {
+    let unlike = |change: fn(&mut [u8])| {
+        let mut unlike = old_header(page, 2, 5);
+        change(&mut unlike);
+        unlike
+    };
+    let middles = [
+        ("the same header", unlike(|_| ())),
+        ("another generation", old_header(page, 2, 6)),
+        ("TCDA 0", unlike(|header| header[382] = 0)),
+        ("no blocks", unlike(|header| header[12] = 0)),
+        ("an area past block 31", unlike(|header| header[12] = 32)),
+        ("the other page", unlike(|header| header[0] ^= 15)),
+        ("a bad scope", unlike(|header| header[380..382].fill(3))),
+        ("zeros", vec![0; BLOCK]),
+        ("anything", vec![0xFF; BLOCK]),
+    ];
+    let (blocks, matching) = (numbered(2, 0x40), old_header(page, 2, 5));
+    for (name, middle) in &middles {
+        let row = format!("0{page}h, the middle header: {name}");
+        let (mut state, mut copy) = after_middle(pair, page, 2, Some(middle))?;
+        hold(state[0] == 2 && copy[..2 * BLOCK] == blocks && copy[2 * BLOCK..] == [0xDD; 2 * BLOCK], &row)?;
+        let mut next = pair.step(&mut state, 1, &matching, &mut copy)?;
+        if page == 8 {
+            hold(words_of(&next) == [0x007F_0008, 0, 0, 0, 0], &format!("{row}, and the acknowledgement"))?;
+            next = pair.step(&mut state, 1, &matching, &mut copy)?;
+        }
+        let count = if page == 8 { 4 } else { 3 };
+        let whole = copy[..2 * BLOCK] == blocks && copy[2 * BLOCK..] == [0; 2 * BLOCK];
+        hold(next[..4] == [ENDED, 0, 0, 0] && get_u64(&next, 24) == count && whole, &row)?;
+    }
+    Ok(())
+}
+
+/// Attempts allowed, what the closing header shows of blocks and generation, the ending after the middle command and after a refused one, or 0
+/// without one and with success, and the attempt then.
+type ClosingRow = (&'static str, u32, u8, u8, [u8; 2], u8);
+
+/// A refused middle command is a refused chunk: 12 where a match follows, and else the next attempt, unless attempts are used up (9), the area is
+/// out of reach (19) or larger than the copy (8).
+fn old_closings(pair: &mut Pair, page: u8) -> Same<()> {
+    let rows: [ClosingRow; 8] = [
+        ("another generation", 2, 2, 6, [0, 0], 2),
+        ("another generation in the last attempt", 1, 2, 6, [9, 9], 1),
+        ("block 31 in the last attempt", 1, 31, 6, [9, 9], 1),
+        ("block 32 in the last attempt", 1, 32, 5, [9, 9], 1),
+        ("block 31, larger than the copy", 2, 31, 5, [8, 8], 2),
+        ("block 32, larger than the copy too", 2, 32, 5, [19, 19], 2),
+        ("a match", 2, 2, 5, [0, 12], 1),
+        ("a match in the last attempt", 1, 2, 5, [0, 12], 1),
+    ];
+    let middle = old_header(page, 2, 6);
+    for (name, attempts, blocks, generation, endings, attempt) in rows {
+        for (middle, ending) in [Some(&middle[..]), None].into_iter().zip(endings) {
+            let row = format!("0{page}h, middle refused: {}, the closing header: {name}", middle.is_none());
+            let (mut state, mut copy) = after_middle(pair, page, attempts, middle)?;
+            let next = pair.step(&mut state, 1, &old_header(page, blocks, generation), &mut copy)?;
+            hold(next[1] == ending && state[16] == attempt, &format!("{row}: {ending} in attempt {attempt}"))?;
+            hold(ending == 0 || copy == [0; 4 * BLOCK], &format!("{row}: a copy of zeros"))?;
+        }
     }
     Ok(())
 }

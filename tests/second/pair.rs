@@ -152,7 +152,7 @@ impl Pair {
             let tail = header.get(380..400).unwrap_or(&[]);
             format!("  {wanted:?}\n  header {}\n  from 380 {}", hex(header), hex(tail))
         })?;
-        self.seen.note(Function::Plan, want);
+        self.seen.note(Function::Plan.of(wanted.caps), want);
         if planned_wanted[5] != 0 {
             self.seen.note_fault(Place::Plan, wanted.page, planned_wanted[5]);
         }
@@ -204,7 +204,7 @@ impl Pair {
         let want = boundary::setup(arguments, &mut state_wanted, &mut next_wanted);
         let parts: [(&str, &Lent, &[u8]); 2] = [("next", &next, &next_wanted), ("state", &state, &state_wanted)];
         verify((got.into(), want.into()), &parts, "setup", || format!("  {arguments:?}"))?;
-        self.note_next(Function::Setup, &next_wanted);
+        self.note_next(Function::Setup.of(arguments.caps), &next_wanted);
         Ok((state_wanted, next_wanted))
     }
 
@@ -231,7 +231,7 @@ impl Pair {
         verify((got.into(), want.into()), &parts, "step", || {
             format!("  state {}\n  ok {ok}\n  data {}\n  copy {}", hex(state), hex(data), hex(copy))
         })?;
-        self.note_next(Function::Step, &next_wanted);
+        self.note_next(Function::Step.of(state[4]), &next_wanted);
         if next_wanted[3] != 0 {
             let place = match state[0] {
                 0 => Place::FirstHeader,

@@ -5,7 +5,7 @@
 use std::collections::BTreeSet;
 
 use crate::boundary::{get_u32, get_u64, Setup, Wanted, ENDED, NEXT_BYTES, PLANNED_BYTES, REFUSED, SEND, STATE_BYTES};
-use crate::generate::{self, asked_bytes, DA4S, ETDAS, EXTENDED, MCDAS, TELEMETRY};
+use crate::generate::{self, asked_bytes, is_old, DA4S, ETDAS, EXTENDED, MCDAS, TELEMETRY};
 use crate::lent::{Lent, Slice};
 use crate::library;
 use crate::orders::{break_header, first};
@@ -41,18 +41,19 @@ fn shown(random: &mut Random, page: u8, last: LastBlocks) -> Vec<u8> {
     header
 }
 
-/// Blocks a command, and whether setup's limits take them.
-const CHUNK_LIMITS: [(u32, bool); 10] = [
-    (0, false),
-    (1, true),
-    (2, true),
-    (3, true),
-    (8_191, true),
-    (8_192, true),
-    (8_193, false),
-    (65_537, false),
-    (1 << 31, false),
-    (u32::MAX, false),
+/// Blocks a command, and whether setup's limits take them with extended data, and without.
+const CHUNK_LIMITS: [(u32, [bool; 2]); 11] = [
+    (0, [false, true]),
+    (1, [true, false]),
+    (2, [true, false]),
+    (3, [true, false]),
+    (31, [true, false]),
+    (8_191, [true, false]),
+    (8_192, [true, false]),
+    (8_193, [false, false]),
+    (65_537, [false, false]),
+    (1 << 31, [false, false]),
+    (u32::MAX, [false, false]),
 ];
 
 /// Rooms, and whether setup's limits take them: of no block and of one and beside them, at the limit and far beyond it.
@@ -82,31 +83,36 @@ fn rooms_around(blocks: u32) -> [(u64, bool); 5] {
 
 /// What documents 01 and 02 make of a plan from a good header of this page with data available.
 fn due_of(wanted: Wanted, shows: u8, last: LastBlocks, limits_hold: bool) -> (u8, u32) {
-    let needed = EXTENDED | TELEMETRY;
     let good = limits_hold
         && PAGES.contains(&wanted.page)
         && (1..=4).contains(&wanted.area)
         && wanted.caps <= 31
-        && wanted.caps & needed == needed;
+        && wanted.caps & TELEMETRY != 0;
     let blocks = if good { last[wanted.area as usize - 1] as u64 } else { 0 };
     let answer = first(&[
         (BAD_SETUP, !good),
         (NO_AREA_4, wanted.area == 4 && wanted.caps & (DA4S | ETDAS) != DA4S | ETDAS),
         (BAD_HEADER, wanted.page != shows),
+        (OUT_OF_REACH, is_old(wanted.caps) && blocks >= 32),
         (NO_ROOM, blocks > wanted.room / 512),
     ]);
-    let chunks = if answer == SUCCESS { blocks.div_ceil(wanted.chunk as u64) } else { 0 };
+    let chunks = match answer {
+        SUCCESS if is_old(wanted.caps) => (blocks > 0) as u64,
+        SUCCESS => blocks.div_ceil(wanted.chunk as u64),
+        _ => 0,
+    };
     (answer, chunks as u32)
 }
 
-/// Every argument at its limits and past them: all pages with all areas, all capabilities, and all of their limits together.
+/// Every argument at its limits and past them: all pages with all areas, all capabilities, and all of their limits together. Without extended data
+/// the areas are about block 31.
 pub fn limits(pair: &mut Pair, random: &mut Random) -> Same<()> {
     let capabilities: Vec<u8> = (0..=31).chain([32, 63, 95, 159, 224, 255]).collect();
     for page in PAGES {
-        let (four, three) = ([1, 3, 6, 7], [1, 3, 6, 0]);
-        let headers = [three, four].map(|last| (last, shown(random, page, last)));
+        let (four, old_four) = ([1, 3, 6, 7], [0, 31, 32, 33]);
+        let headers = [[1, 3, 6, 0], four, [0, 31, 32, 0], old_four].map(|last| (last, shown(random, page, last)));
         let try_plan = |pair: &mut Pair, wanted: Wanted, limits_hold: bool| {
-            let (last, header) = &headers[(wanted.caps & DA4S != 0) as usize];
+            let (last, header) = &headers[(wanted.caps & DA4S != 0) as usize + 2 * is_old(wanted.caps) as usize];
             let (answer, planned) = pair.plan(wanted, header)?;
             let (given, due) = ((answer, get_u32(&planned, CHUNKS)), due_of(wanted, page, *last, limits_hold));
             hold(given == due && tells_what_is_due(answer, &planned), || {
@@ -114,20 +120,24 @@ pub fn limits(pair: &mut Pair, random: &mut Random) -> Same<()> {
             })
         };
         let good = Wanted { page, area: 3, caps: ALL, chunk: 2, room: 7 * 512 };
+        let good_old = Wanted { caps: ALL & !EXTENDED, chunk: 0, room: 33 * 512, ..good };
         for (asked, area) in (0..=255).flat_map(|asked| (0..=255).map(move |area| (asked, area))) {
             try_plan(pair, Wanted { page: asked, area, ..good }, true)?;
+            try_plan(pair, Wanted { page: asked, area, ..good_old }, true)?;
         }
         for (caps, area) in (0..=255).flat_map(|caps| (1..=4).map(move |area| (caps, area))) {
-            try_plan(pair, Wanted { caps, area, ..good }, true)?;
+            try_plan(pair, Wanted { caps, area, ..good }, !is_old(caps))?;
+            try_plan(pair, Wanted { caps, area, ..good_old }, is_old(caps))?;
         }
         for area in [0, 1, 2, 3, 4, 5, 255] {
-            let blocks = four[(area as usize).clamp(1, 4) - 1];
-            for (room, room_holds) in ROOM_LIMITS.into_iter().chain(rooms_around(blocks)) {
+            let [blocks, old_blocks] = [four, old_four].map(|last| last[(area as usize).clamp(1, 4) - 1].max(1));
+            let near = rooms_around(blocks).into_iter().chain(rooms_around(old_blocks));
+            for (room, room_holds) in ROOM_LIMITS.into_iter().chain(near) {
                 for (chunk, chunk_holds) in CHUNK_LIMITS {
                     for caps in &capabilities {
                         for asked in [page, 15 - page, 0x00, 0x06, 0x09, 0xFF] {
                             let wanted = Wanted { page: asked, area, caps: *caps, chunk, room };
-                            try_plan(pair, wanted, room_holds && chunk_holds)?;
+                            try_plan(pair, wanted, room_holds && chunk_holds[is_old(*caps) as usize])?;
                         }
                     }
                 }
@@ -138,36 +148,43 @@ pub fn limits(pair: &mut Pair, random: &mut Random) -> Same<()> {
 }
 
 /// The refusals of a plan, in document 02's order.
-const ORDER: [u8; 5] = [BAD_SETUP, NO_AREA_4, BAD_HEADER, NOTHING, NO_ROOM];
+const ORDER: [u8; 6] = [BAD_SETUP, NO_AREA_4, BAD_HEADER, NOTHING, OUT_OF_REACH, NO_ROOM];
 
 /// Breaks one of setup's limits and leaves the area, which others are refused by.
 fn break_limit(random: &mut Random, wanted: &mut Wanted) {
-    match random.up_to(6) {
+    match random.up_to(5) {
         0 => wanted.page = random.pick(&[0x00, 0x06, 0x09, 0x87, 0x88, 0xFF]),
-        1 => wanted.caps &= !EXTENDED,
+        1 => singles::mismatch_chunk(random, &mut wanted.caps, &mut wanted.chunk),
         2 => wanted.caps &= !TELEMETRY,
         3 => wanted.caps |= random.pick(&[32, 64, 128]),
-        4 => wanted.chunk = random.pick(&[0, 8_193, 1 << 16, u32::MAX]),
-        5 => wanted.room |= random.pick(&[1, 256, 511]),
+        4 => wanted.room |= random.pick(&[1, 256, 511]),
         _ => wanted.room |= random.pick(&[1 << 30, 1 << 32, 1 << 63]),
     }
 }
 
 /// A plan and a header for which just these refusals hold, in the order above, or nothing where 11 is among them on 07h, which has none. Without
-/// DA4S a good header's area 4 is larger than no copy, so 6 and 8 together are by ETDAS there.
-fn made(random: &mut Random, page: u8, holds: [bool; 5]) -> Option<(Wanted, Vec<u8>)> {
-    let [bad_setup, no_area_4, bad_header, nothing, large] = holds;
+/// DA4S a good header's area 4 is larger than no copy and past no block, so 6 and one of these together are by ETDAS there. 19 is of drives
+/// without extended data alone, and others may have an area past block 31 or not.
+fn made(random: &mut Random, page: u8, holds: [bool; 6]) -> Option<(Wanted, Vec<u8>)> {
+    let [bad_setup, no_area_4, bad_header, nothing, out_of_reach, large] = holds;
     if nothing && page == HOST_PAGE {
         return None;
     }
-    let lacks = if large && !bad_header { ETDAS } else { random.pick(&[DA4S, ETDAS, DA4S | ETDAS]) };
-    let caps = if no_area_4 { ALL & !lacks } else { ALL };
+    let sized = out_of_reach || large;
+    let lacks = if sized && !bad_header { ETDAS } else { random.pick(&[DA4S, ETDAS, DA4S | ETDAS]) };
+    let old = out_of_reach || random.chance(50);
+    let caps = if no_area_4 { ALL & !lacks } else { ALL } & if old { !EXTENDED } else { ALL };
     let area = if no_area_4 { 4 } else { 1 + random.up_to(3) as u8 };
-    let room = random.pick(&[1, 5, 1_000]);
-    let blocks = if large { room + random.pick(&[1, 1, 2, 300]) } else { random.pick(&[1, room]) };
+    let blocks = match old {
+        true if out_of_reach => random.pick(&[32, 32, 33, 64, 1_300]),
+        true => random.pick(&[1, 5, 30, 31, 31]),
+        false => random.pick(&[1, 5, 31, 32, 1_300]),
+    };
+    let room = if large { random.pick(&[0, blocks / 2, blocks - 1]) } else { blocks + random.pick(&[0, 0, 1, 300]) };
     let fourth = if caps & DA4S == 0 && !bad_header { 0 } else { blocks };
     let last = [blocks, blocks, blocks, fourth];
-    let mut wanted = Wanted { page, area, caps, chunk: random.pick(&[1, 2, 5, 8_192]), room: bytes_of(room) };
+    let chunk = generate::chunk(random, caps, &[1, 2, 5, 8_192]);
+    let mut wanted = Wanted { page, area, caps, chunk, room: bytes_of(room) };
     let mut header = shown(random, page, last);
     if nothing {
         header[382] = 0;
@@ -194,24 +211,24 @@ fn made(random: &mut Random, page: u8, holds: [bool; 5]) -> Option<(Wanted, Vec<
     Some((wanted, header))
 }
 
-/// 13, 6, 7, 11, 8: every set of refusals that can hold together, each many times and in other ways. The first is answered, and with any but 7
+/// 13, 6, 7, 11, 19, 8: every set of refusals that can hold together, each many times and in other ways. The first is answered, and with any but 7
 /// nothing is told.
 pub fn orders(pair: &mut Pair, random: &mut Random) -> Same<()> {
     for page in PAGES {
         let mut met = BTreeSet::new();
-        for turn in 0..32 * 300 {
-            let holds = [1, 2, 4, 8, 16].map(|bit| turn & bit != 0);
+        for turn in 0..64 * 300 {
+            let holds = [1, 2, 4, 8, 16, 32].map(|bit| turn & bit != 0);
             let Some((wanted, header)) = made(random, page, holds) else {
                 continue;
             };
             met.insert(holds);
-            let due = first(&[0, 1, 2, 3, 4].map(|at| (ORDER[at], holds[at])));
+            let due = first(&[0, 1, 2, 3, 4, 5].map(|at| (ORDER[at], holds[at])));
             let (answer, planned) = pair.plan(wanted, &header)?;
             hold(answer == due && tells_what_is_due(answer, &planned), || {
                 format!("of {ORDER:?} hold {holds:?}, and {wanted:?} gives {answer}")
             })?;
         }
-        let can_be = if page == CONTROLLER_PAGE { 32 } else { 16 };
+        let can_be = if page == CONTROLLER_PAGE { 64 } else { 32 };
         hold(met.len() == can_be, || format!("{page:02X}h: {} sets of refusals were met", met.len()))?;
     }
     Ok(())
@@ -221,8 +238,12 @@ pub fn orders(pair: &mut Pair, random: &mut Random) -> Same<()> {
 fn any_plan(random: &mut Random) -> (Wanted, Vec<u8>) {
     let mut setup = singles::good_setup(random);
     let (page, da4s) = (setup.page, setup.caps & DA4S != 0);
-    let last =
-        if random.chance(50) { generate::header_last(random, da4s) } else { generate::last_blocks(random, da4s, 12) };
+    let near_reach = random.pick(&[0, 1, 30, 31, 31, 32, 32, 33]);
+    let last = match random.up_to(3) {
+        0 => generate::last_blocks(random, da4s, 12),
+        1 | 2 if is_old(setup.caps) => generate::last_with(random, da4s, setup.area, near_reach),
+        _ => generate::header_last(random, da4s),
+    };
     let blocks = last[setup.area as usize - 1];
     if random.chance(60) {
         let room = bytes_of(blocks);
@@ -230,8 +251,8 @@ fn any_plan(random: &mut Random) -> (Wanted, Vec<u8>) {
     }
     if random.chance(50) {
         let near = 1 + random.up_to(2 * blocks.min(8_000));
-        setup.chunk =
-            random.pick(&[near, near, blocks, blocks + 1, blocks.max(1) - 1, blocks.div_ceil(2)]).clamp(1, 8_192);
+        let chunks = [near, near, blocks, blocks + 1, blocks.max(1) - 1, blocks.div_ceil(2)];
+        setup.chunk = generate::chunk(random, setup.caps, &chunks.map(|chunk| chunk.clamp(1, 8_192)));
     }
     let mut header = generate::header(random, page, last);
     if random.chance(20) {
@@ -246,7 +267,8 @@ fn any_plan(random: &mut Random) -> (Wanted, Vec<u8>) {
     (setup.wanted(), header)
 }
 
-/// A plan, and beside it one with another chunk and one with another room. Setup's refusals are the plan's, and the chunk changes no field.
+/// A plan, and beside it one with another chunk and one with another room. Setup's refusals are the plan's, and the chunk changes no field, but
+/// without extended data any chunk is 13.
 pub fn plans(pair: &mut Pair, random: &mut Random) -> Same<()> {
     let (wanted, header) = any_plan(random);
     let (answer, planned) = pair.plan(wanted, &header)?;
@@ -259,8 +281,11 @@ pub fn plans(pair: &mut Pair, random: &mut Random) -> Same<()> {
     let any = 1 + random.up_to(8_191);
     let other_chunk = Wanted { chunk: random.pick(&[1, 2, any, 8_192]), ..wanted };
     let other_room = Wanted { room: random.pick(&[0, 512, wanted.room.wrapping_add(512), ROOM]), ..wanted };
-    let (_, by_chunk) = pair.plan(other_chunk, &header)?;
+    let (chunk_answer, by_chunk) = pair.plan(other_chunk, &header)?;
     pair.plan(other_room, &header)?;
+    if is_old(wanted.caps) {
+        return hold(chunk_answer == BAD_SETUP, || format!("{other_chunk:?} gives {chunk_answer}"));
+    }
     hold(answer != SUCCESS || by_chunk[..CHUNKS] == planned[..CHUNKS], || {
         format!("another chunk than that of {wanted:?} changes fields")
     })
@@ -273,7 +298,7 @@ const ROOM: u64 = 536_870_912;
 fn small_plan(random: &mut Random) -> (Wanted, Vec<u8>) {
     let (mut wanted, mut header) = any_plan(random);
     let page = if random.chance(90) { wanted.page } else { random.pick(&PAGES) };
-    let most = random.pick(&[0, 1, 6, 13]);
+    let most = random.pick(if is_old(wanted.caps) { &[0, 1, 6, 13, 31, 33, 40] } else { &[0, 1, 6, 13] });
     let last = generate::last_blocks(random, wanted.caps & DA4S != 0, most);
     if random.chance(80) {
         header = generate::header(random, page, last);
@@ -330,7 +355,8 @@ fn one_collection(
         return hold(ended && copy.iter().all(|byte| *byte == 0), || what(&next));
     }
     hold(generate::last_of(&state, 40) == generate::last_of(planned, 12), || what(&next))?;
-    let mut run = Undisturbed { setup, chunks: get_u32(planned, CHUNKS), sent: 0 };
+    let blocks = get_u32(planned, 8 + 4 * setup.area as usize);
+    let mut run = Undisturbed { setup, blocks, chunks: get_u32(planned, CHUNKS), sent: 0 };
     let mut area = Vec::new();
     let mut next = next;
     while next[0] == SEND {
@@ -339,7 +365,7 @@ fn one_collection(
             None => header.to_vec(),
         };
         if state[0] == CHUNK {
-            area.extend(&data);
+            area.extend(if is_old(setup.caps) { &data[BLOCK..] } else { &data[..] });
         }
         next = pair.step(&mut state, 1, &data, &mut copy)?;
     }
@@ -354,6 +380,8 @@ const CHUNK: u8 = 1;
 /// A collection from its first header on, with nothing that disturbs it.
 struct Undisturbed {
     setup: Setup,
+    /// of the wanted area
+    blocks: u32,
     /// as planned
     chunks: u32,
     /// chunk commands
@@ -361,16 +389,20 @@ struct Undisturbed {
 }
 
 impl Undisturbed {
-    /// Whether the awaited command is a chunk, and then its bytes: each starts where the one before it ended.
+    /// Whether the awaited command is a chunk, and then its bytes: each starts where the one before it ended. Without extended data there is one,
+    /// which starts with the header.
     fn awaits_chunk(&mut self, state: &[u8], next: &[u8; NEXT_BYTES]) -> Same<Option<usize>> {
         let words = words_of(next);
         if state[0] != CHUNK {
             return hold(words[2] == 0, || format!("a header is read at {words:X?}")).map(|()| None);
         }
-        let place = 512 * (1 + self.sent as u64 * self.setup.chunk as u64);
-        hold(words[2] as u64 == place, || format!("chunk {} of {:?} is {words:X?}", self.sent, self.setup))?;
+        let old = is_old(self.setup.caps);
+        let place = if old { 0 } else { 512 * (1 + self.sent as u64 * self.setup.chunk as u64) };
+        let bytes = asked_bytes(self.setup.caps, words);
+        let whole = !old || (self.sent == 0 && bytes == 512 + bytes_of(self.blocks));
+        hold(words[2] as u64 == place && whole, || format!("chunk {} of {:?} is {words:X?}", self.sent, self.setup))?;
         self.sent += 1;
-        Ok(Some(asked_bytes(self.setup.caps, words) as usize))
+        Ok(Some(bytes as usize))
     }
 
     /// It ends well, after as many chunks as planned, the two headers and on 08h the acknowledgement.
@@ -409,7 +441,7 @@ pub fn long_lists(pair: &mut Pair, random: &mut Random) -> Same<()> {
         hold(answer == SUCCESS, || format!("{wanted:?} gives {answer}"))?;
         let setup = wanted.setup(0, 1);
         let (mut state, mut next) = (Lent::new(&[0; STATE_BYTES], 0, false), Lent::new(&[0; NEXT_BYTES], 0, false));
-        let mut run = Undisturbed { setup, chunks: get_u32(&planned, CHUNKS), sent: 0 };
+        let mut run = Undisturbed { setup, blocks, chunks: get_u32(&planned, CHUNKS), sent: 0 };
         library::setup(setup, &mut state, &mut next);
         while next.bytes()[0] == SEND {
             let told = next.bytes().try_into().expect("as many bytes as were lent");

@@ -2,7 +2,7 @@
 //! happen in between. Every call goes to the pair; what documents 01 and 02 claim of a run is checked besides.
 
 use crate::boundary::{get_u32, get_u64, Setup, ENDED, NEXT_BYTES, REFUSED, SEND, STATE_BYTES};
-use crate::generate::{self, asked_bytes, at};
+use crate::generate::{self, asked_bytes, at, is_old};
 use crate::orders::small_setup;
 use crate::pair::{Difference, Offer, Pair, Same, World};
 use crate::random::Random;
@@ -18,6 +18,20 @@ const MOST_CAPTURES_TOLD: u32 = 255;
 
 pub fn words_of(next: &[u8; NEXT_BYTES]) -> Words {
     [4, 8, 12, 16, 20].map(|at| get_u32(next, at))
+}
+
+/// Whether a command is one that a drive without extended data takes: from offset 0, and the count in bits 27:16 of CDW10.
+fn is_without_extended_data(words: Words) -> bool {
+    words[0] >> 28 == 0 && words[1..] == [0; 4]
+}
+
+/// Commands that bring an area of so many blocks, but for headers.
+fn chunks_of(setup: Setup, blocks: u32) -> u64 {
+    match blocks {
+        0 => 0,
+        _ if is_old(setup.caps) => 1,
+        _ => blocks.div_ceil(setup.chunk) as u64,
+    }
 }
 
 /// A run with the books that its claims need.
@@ -38,8 +52,10 @@ struct Run {
     captures_since_header: u64,
     /// the most captures between a header that opened an attempt and the one that closed it
     captures_in_an_attempt: u64,
-    /// the wanted area when the closing header was last read
+    /// the wanted area when a header was last read
     area_at_check: Vec<u8>,
+    /// in an old run, the blocks that its last middle command brought
+    blocks_together: Vec<u8>,
     /// the most chunks that a header called for
     chunks: u64,
     /// chunks of the plan from the first header
@@ -87,7 +103,8 @@ pub fn soaks(pair: &mut Pair, random: &mut Random) -> Same<()> {
         (world, plan) = drive_and_setup(random);
     }
     let k = random.pick(&[256, 300, 700]);
-    let (attempts, chunk, room) = (random.pick(&[k + 1, 65_535]), random.pick(&[1, 1, 2]), 8 * 512);
+    let attempts = random.pick(&[k + 1, 65_535]);
+    let (chunk, room) = (generate::chunk(random, plan.caps, &[1, 1, 2]), 8 * 512);
     let mut run = begin(pair, random, world, Setup { attempts, chunk, room, ..plan }, true)?;
     let mut left = k;
     while run.next[0] == SEND {
@@ -128,7 +145,8 @@ fn drive_and_setup(random: &mut Random) -> (World, Setup) {
     let blocks = random.pick(&[all, all, all, all + 3, now, now.saturating_sub(1), any]);
     let attempts = random.pick(&[1, 2, 2, 3, 4, 8, 257, 65_535]);
     // A large area goes in large chunks, so that no run takes hundreds of commands.
-    let chunk = if all > 40 { random.pick(&[100, 513, 8_192]) } else { random.pick(&[1, 1, 2, 3, 4, 7, 8_192]) };
+    let chunks: &[u32] = if all > 40 { &[100, 513, 8_192] } else { &[1, 1, 2, 3, 4, 7, 8_192] };
+    let chunk = generate::chunk(random, plan.caps, chunks);
     (world, Setup { room: blocks as u64 * 512, attempts, chunk, ..plan })
 }
 
@@ -137,7 +155,6 @@ fn begin(pair: &mut Pair, random: &mut Random, world: World, setup: Setup, hones
     let (state, next) = pair.setup(setup)?;
     claim(next[0] == SEND, "a good setup gives a command")?;
     let copy = random.bytes(setup.room as usize);
-    let area_at_check = Vec::new();
     Ok(Run {
         world,
         setup,
@@ -150,7 +167,8 @@ fn begin(pair: &mut Pair, random: &mut Random, world: World, setup: Setup, hones
         drops: 0,
         captures_since_header: 0,
         captures_in_an_attempt: 0,
-        area_at_check,
+        area_at_check: Vec::new(),
+        blocks_together: Vec::new(),
         chunks: 0,
         planned: 0,
     })
@@ -183,6 +201,8 @@ impl Run {
             return Err(Difference("a run does not end".to_string()));
         }
         let words = words_of(&self.next);
+        let old = is_old(self.setup.caps);
+        claim(!old || is_without_extended_data(words), "an old run takes no offset and at most 4,096 dwords")?;
         let asked = asked_bytes(self.setup.caps, words) as usize;
         let short = !self.honest && random.chance(3);
         let length = if short { asked - 1 } else { asked + random.pick(&[0, 0, 1, 512]) };
@@ -205,8 +225,11 @@ impl Run {
         if phase == FIRST_HEADER && ok {
             self.plan(pair, &buffer)?;
         }
+        if phase == CHUNK && ok && old {
+            self.blocks_together = buffer.split_off(BLOCK);
+        }
         let wanted = get_u32(&self.state, 36 + 4 * self.setup.area as usize);
-        self.chunks = self.chunks.max(wanted.div_ceil(self.setup.chunk) as u64);
+        self.chunks = self.chunks.max(chunks_of(self.setup, wanted));
         Ok(())
     }
 
@@ -232,12 +255,12 @@ impl Run {
         Offer { last, bytes: random.bytes(a3 as usize * BLOCK), reason: random.bytes(REASON) }
     }
 
-    /// Books an own command, and claims that an honest drive refuses no more than a chunk.
+    /// Books an own command, and claims that an honest drive refuses no more than a chunk, and in an old run nothing.
     fn book_command(&mut self, answer: u8) -> Same<()> {
         let phase = self.state[0];
         if self.honest {
-            let may_be_refused = phase == CHUNK && answer == INVALID_FIELD;
-            claim(answer == SUCCESS || may_be_refused, "a header or an acknowledgement is not refused")?;
+            let may_be_refused = phase == CHUNK && answer == INVALID_FIELD && !is_old(self.setup.caps);
+            claim(answer == SUCCESS || may_be_refused, "what starts with the header is not refused")?;
         }
         if phase != CHUNK && phase != ACKNOWLEDGEMENT {
             let last = area_last(&self.world, self.setup);
@@ -246,7 +269,7 @@ impl Run {
                 self.captures_in_an_attempt = self.captures_in_an_attempt.max(self.captures_since_header);
             }
             self.captures_since_header = 0;
-            self.chunks = self.chunks.max(last.div_ceil(self.setup.chunk) as u64);
+            self.chunks = self.chunks.max(chunks_of(self.setup, last));
         }
         Ok(())
     }
@@ -255,9 +278,10 @@ impl Run {
     fn unfit_completion(&mut self, pair: &mut Pair, random: &mut Random, ok: bool, data: &[u8]) -> Same<()> {
         let mut data = data.to_vec();
         let mut copy = self.copy.clone();
-        match random.up_to(2) {
+        match random.up_to(3) {
             0 => data.push(0),
             1 if ok => data.truncate(data.len() - 1),
+            2 if ok => data.truncate(data.len() - BLOCK),
             _ => copy.push(0),
         }
         let (state, before) = (self.state, copy.clone());
@@ -382,9 +406,10 @@ impl Run {
 
     /// What is claimed of an ended run that had more attempts than the k captures and drops that could happen.
     fn finish_of_k(&mut self, pair: &mut Pair, k: u32) -> Same<()> {
+        let old_ending = is_old(self.setup.caps) && self.next[1] == OUT_OF_REACH;
         claim(
-            [SUCCESS, NO_ROOM, WITHDRAWN, NOTHING].contains(&self.next[1]),
-            "with more than k attempts a run ends with 0, 8, 10 or 11",
+            [SUCCESS, NO_ROOM, WITHDRAWN, NOTHING].contains(&self.next[1]) || old_ending,
+            "with more than k attempts a run ends with 0, 8, 10 or 11, and an old one with these or 19",
         )?;
         claim(self.captures + self.drops <= k as u64, "no more than k captures and drops were counted")?;
         let told = self.captures_in_an_attempt <= MOST_CAPTURES_TOLD as u64;
@@ -408,8 +433,10 @@ impl Run {
         claim(count == self.sent, "the answer gives the number of commands sent")?;
         claim(count <= 2 + attempts * (self.chunks + 1), "a run ends within 2 + attempts * (C + 1) commands")?;
         let kept = if answer == SUCCESS { get_u32(&self.state, 36 + 4 * self.setup.area as usize) } else { 0 };
-        let tail = &self.copy[kept as usize * BLOCK..];
+        let (kept, tail) = self.copy.split_at(kept as usize * BLOCK);
         claim(tail.iter().all(|byte| *byte == 0), "zeros stand after what an ending keeps")?;
+        let together = kept.is_empty() || kept == self.blocks_together;
+        claim(together || !is_old(self.setup.caps), "an old run keeps the blocks of one command")?;
         if self.honest {
             self.check_honest_ending(answer, newer == 1, count)?;
         }
@@ -425,15 +452,19 @@ impl Run {
             return Ok(());
         }
         let may_be_used_up = k >= self.setup.attempts as u64;
+        let bytes = self.area_at_check.len();
+        let out_of_reach = is_old(self.setup.caps) && bytes > 31 * BLOCK;
         let allowed = match answer {
-            SUCCESS | NO_ROOM => true,
+            SUCCESS => true,
+            NO_ROOM => bytes as u64 > self.setup.room && !out_of_reach,
+            OUT_OF_REACH => out_of_reach,
             ATTEMPTS_USED_UP => may_be_used_up,
             WITHDRAWN | NOTHING => controller_page,
             _ => false,
         };
         claim(
             allowed,
-            "an honest drive's run ends with 0, 8, 10 or 11, and with 9 only if captures and drops use up the attempts",
+            "an honest drive's run ends with 0, 8, 10, 11 or 19, and with 9 only if captures and drops use up the attempts",
         )?;
         if answer == SUCCESS {
             let area = self.copy.get(..self.area_at_check.len());
@@ -488,8 +519,8 @@ impl Event {
 const SAME_07H: Event = Event::Create([0, 0, 2, 2]);
 const SAME_08H: Event = Event::Capture([0, 0, 2, 2]);
 
-/// A run of one capture plan, as its commands are expected: H first header, cN chunk at block N, h closing header, A acknowledgement, and
-/// ! after a refused one.
+/// A run of one capture plan, as its commands are expected: H first header, cN chunk at block N, M the middle command of an old run, h closing
+/// header, A acknowledgement, and ! after a refused one. A chunk of 0 is an old run, from a drive without extended data.
 struct Script {
     page: u8,
     last: LastBlocks,
@@ -506,7 +537,7 @@ struct Script {
 }
 
 /// Corner cases in which captures, few and many, clearings, drops and the end of a page meet.
-const SCRIPTS: [Script; 51] = [
+const SCRIPTS: [Script; 85] = [
     script(7, [0, 0, 3, 0], 2, 4, &[], "H c1 c3 h", 0, false),
     script(7, [0, 0, 0, 0], 2, 4, &[], "H h", 0, false),
     Script { area: 1, ..script(8, [0, 0, 3, 0], 2, 4, &[], "H h A", 0, false) },
@@ -715,6 +746,69 @@ const SCRIPTS: [Script; 51] = [
     script(8, [0, 0, 2, 0], 2, 4, &[(3, Event::Many(256, &Event::Capture([0, 0, 9, 9])))], "H c1 h A", 0, false),
     script(8, [0, 0, 2, 0], 2, 4, &[(3, Event::Many(257, &SAME_08H))], "H c1 h A", 0, true),
     script(8, [0, 0, 2, 0], 2, 4, &[(3, Event::Many(512, &SAME_08H))], "H c1 h A", 0, false),
+    // Old runs, of no block, of one, and of all that are in reach.
+    script(7, [0, 0, 0, 0], 0, 4, &[], "H h", 0, false),
+    Script { area: 1, ..script(8, [0, 0, 3, 0], 0, 4, &[], "H h A", 0, false) },
+    script(8, [0, 0, 0, 0], 0, 4, &[], "H", 11, false),
+    script(7, [0, 0, 1, 0], 0, 1, &[], "H M h", 0, false),
+    script(8, [0, 0, 1, 0], 0, 4, &[], "H M h A", 0, false),
+    script(7, [0, 0, 31, 0], 0, 31, &[], "H M h", 0, false),
+    script(8, [0, 0, 31, 0], 0, 40, &[], "H M h A", 0, false),
+    // Past block 31, whatever the room is, but not where only another area is.
+    script(7, [0, 0, 32, 0], 0, 31, &[], "H", 19, false),
+    script(7, [0, 0, 32, 0], 0, 32, &[], "H", 19, false),
+    script(8, [0, 0, 32, 0], 0, 0, &[], "H", 19, false),
+    Script { area: 2, ..script(7, [0, 31, 32, 0], 0, 31, &[], "H M h", 0, false) },
+    script(7, [0, 0, 20, 0], 0, 10, &[], "H", 8, false),
+    // An area that grows past block 31: 9 before 19 before 8.
+    script(7, [0, 0, 1, 0], 0, 40, &[(2, Event::Create([0, 0, 32, 32]))], "H M h", 19, false),
+    script(7, [0, 0, 1, 0], 0, 4, &[(2, Event::Create([0, 0, 32, 32]))], "H M h", 19, false),
+    script(7, [0, 0, 1, 0], 0, 4, &[(2, Event::Create([0, 0, 31, 31]))], "H M h", 8, false),
+    script(8, [0, 0, 31, 0], 0, 40, &[(1, Event::Capture([0, 0, 32, 32]))], "H M h", 19, false),
+    Script { attempts: 1, ..script(7, [0, 0, 1, 0], 0, 4, &[(2, Event::Create([0, 0, 32, 32]))], "H M h", 9, false) },
+    Script {
+        attempts: 2,
+        ..script(
+            7,
+            [0, 0, 1, 0],
+            0,
+            4,
+            &[(1, Event::Create([0, 0, 2, 2])), (4, Event::Create([0, 0, 32, 32]))],
+            "H M h M h",
+            9,
+            false,
+        )
+    },
+    script(
+        7,
+        [0, 0, 31, 0],
+        0,
+        31,
+        &[(1, Event::Create([0, 0, 32, 32])), (2, Event::Create([0, 0, 31, 31]))],
+        "H M h M h",
+        0,
+        false,
+    ),
+    // The header of the middle command shows another generation or no data, and is not judged: the closing one decides.
+    Script {
+        generation: 255,
+        ..script(7, [0, 0, 2, 0], 0, 4, &[(1, Event::Create([0, 0, 2, 2]))], "H M h M h", 0, false)
+    },
+    script(7, [0, 0, 4, 0], 0, 4, &[(1, Event::Create([0, 0, 0, 0]))], "H M h h", 0, false),
+    script(8, [0, 0, 3, 0], 0, 4, &[(1, Event::Clear)], "H M h", 10, false),
+    script(8, [0, 0, 3, 0], 0, 4, &[(1, Event::Clear), (2, Event::Capture([0, 0, 2, 2]))], "H M h M h A", 0, false),
+    script(8, [0, 0, 3, 0], 0, 4, &[(3, Event::Capture([0, 0, 32, 32]))], "H M h A", 0, true),
+    script(7, [2, 2, 2, 0], 0, 4, &[(1, Event::Drop)], "H M h h", 0, false),
+    script(7, [2, 2, 2, 0], 0, 4, &[(2, Event::Drop)], "H M h h", 0, false),
+    Script { attempts: 1, ..script(7, [2, 2, 2, 0], 0, 4, &[(1, Event::Drop)], "H M h", 9, false) },
+    Script { area: 1, ..script(7, [0, 1, 3, 0], 0, 4, &[(1, Event::Drop)], "H h h", 0, false) },
+    script(7, [0, 0, 0, 0], 0, 4, &[(1, Event::Drop)], "H h", 0, false),
+    script(8, [0, 0, 2, 0], 0, 4, &[(1, Event::Drop), (2, Event::Drop)], "H M h A", 0, false),
+    // One command brings all blocks, so that 256 captures before it mix nothing, though no header tells of them.
+    script(7, [0, 0, 2, 0], 0, 4, &[(1, Event::Many(256, &SAME_07H))], "H M h", 0, false),
+    script(8, [0, 0, 2, 0], 0, 4, &[(1, Event::Many(256, &SAME_08H))], "H M h A", 0, false),
+    script(7, [0, 0, 2, 0], 0, 4, &[(1, Event::Many(255, &SAME_07H))], "H M h M h", 0, false),
+    script(8, [0, 0, 2, 0], 0, 4, &[(3, Event::Many(256, &SAME_08H))], "H M h A", 0, false),
 ];
 
 #[allow(clippy::too_many_arguments)]
@@ -740,14 +834,16 @@ fn offer_of(random: &mut Random, last: LastBlocks) -> Offer {
 }
 
 fn play(pair: &mut Pair, random: &mut Random, script: &Script) -> Same<()> {
-    let caps = generate::EXTENDED | generate::TELEMETRY;
+    let old = script.chunk == 0;
+    let caps = generate::TELEMETRY | if old { 0 } else { generate::EXTENDED };
     let (_, mut record) = pair.fresh(caps, 0x00C0_FFEE, 1, 2)?;
     let host = script.page == HOST_PAGE;
     generate::put_last(&mut record, if host { at::HOST_LAST } else { at::CONTROLLER_LAST }, script.last);
     record[if host { at::HOST_GENERATION } else { at::CONTROLLER_GENERATION }] = script.generation;
     record[at::AVAILABLE] = (!host && script.last[2] > 0) as u8;
     random.fill(&mut record[at::REASONS..]);
-    let mut world = World { record, host_store: random.bytes(9 * BLOCK), controller_store: random.bytes(9 * BLOCK) };
+    let store = if old { 33 } else { 9 } * BLOCK;
+    let mut world = World { record, host_store: random.bytes(store), controller_store: random.bytes(store) };
     let room = script.room as u64 * 512;
     let Script { page, area, chunk, attempts, .. } = *script;
     let setup = Setup { page, create: 0, area, caps, chunk, attempts, room };
@@ -789,6 +885,7 @@ fn play(pair: &mut Pair, random: &mut Random, script: &Script) -> Same<()> {
 fn name_of(state: &[u8; STATE_BYTES]) -> String {
     match state[0] {
         FIRST_HEADER => "H".to_string(),
+        CHUNK if is_old(state[4]) && get_u32(state, 20) == 1 => "M".to_string(),
         CHUNK => format!("c{}", get_u32(state, 20)),
         ACKNOWLEDGEMENT => "A".to_string(),
         2..=HEADER_AFTER_REFUSAL => "h".to_string(),

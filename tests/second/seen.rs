@@ -1,22 +1,44 @@
 //! Which answers each function gave, and which faults bad headers had. A comparison that never sees an answer has not tried it.
 
-use crate::rules::{CONTROLLER_PAGE, HOST_PAGE};
+use crate::generate::EXTENDED;
+use crate::rules::{CONTROLLER_PAGE, HOST_PAGE, OUT_OF_REACH};
 
 #[derive(Clone, Copy)]
 pub enum Function {
     Class,
     Status,
     Plan,
+    /// a plan, a setup and a step without extended data
+    OldPlan,
     Words,
     Fresh,
     Setup,
+    OldSetup,
     Step,
+    OldStep,
     Command,
     Capture,
     Drop,
 }
 
-const FUNCTIONS: usize = 10;
+const FUNCTIONS: usize = 13;
+
+impl Function {
+    /// A function of the host, which tells old runs apart by the capabilities.
+    pub fn of(self, caps: u8) -> Function {
+        match self {
+            // No drive has more than the five bits.
+            _ if caps & EXTENDED != 0 || caps > 31 => self,
+            Function::Plan => Function::OldPlan,
+            Function::Setup => Function::OldSetup,
+            Function::Step => Function::OldStep,
+            _ => self,
+        }
+    }
+}
+
+/// Answers go up to this.
+const LAST_ANSWER: usize = OUT_OF_REACH as usize;
 
 /// Each function with the answers that it can give: document 01's table and document 02's additions to it, and for the last two of
 /// `bumbazeel.h` their own numbers.
@@ -24,10 +46,13 @@ const LISTED: [(&str, &[u8]); FUNCTIONS] = [
     ("class", &[0, 1, 2, 3]),
     ("status", &[0, 1, 2, 3]),
     ("plan", &[0, 6, 7, 8, 11, 13]),
+    ("old plan", &[0, 6, 7, 8, 11, 13, 19]),
     ("words", &[0, 13]),
     ("fresh", &[0, 4]),
     ("setup", &[6, 13]),
+    ("old setup", &[6, 13]),
     ("step", &[0, 7, 8, 9, 10, 11, 12, 13, 14, 15]),
+    ("old step", &[0, 7, 8, 9, 10, 11, 12, 13, 14, 15, 19]),
     ("command", &[0, 1, 2, 3, 4, 5]),
     ("capture", &[0, 4, 5]),
     ("drop", &[0, 4]),
@@ -58,7 +83,7 @@ fn can_be_met(place: usize, page: u8, fault: usize) -> bool {
 }
 
 pub struct Seen {
-    answers: [[u64; 16]; FUNCTIONS],
+    answers: [[u64; LAST_ANSWER + 1]; FUNCTIONS],
     /// what was at fault in bad headers, by place, page and number
     faults: [[[u64; LAST_FAULT + 1]; PAGES.len()]; PLACES.len()],
     /// a setup or a step that gave a command
@@ -70,7 +95,7 @@ pub struct Seen {
 impl Seen {
     pub fn new() -> Seen {
         Seen {
-            answers: [[0; 16]; FUNCTIONS],
+            answers: [[0; LAST_ANSWER + 1]; FUNCTIONS],
             faults: [[[0; LAST_FAULT + 1]; PAGES.len()]; PLACES.len()],
             sent: [0; FUNCTIONS],
             newer: 0,
@@ -78,7 +103,7 @@ impl Seen {
     }
 
     pub fn note(&mut self, function: Function, answer: u8) {
-        self.answers[function as usize][answer as usize & 15] += 1;
+        self.answers[function as usize][answer as usize] += 1;
     }
 
     /// A bad header of one of the two pages: no other is judged.
@@ -98,7 +123,7 @@ impl Seen {
             self.newer
         );
         for (index, (name, _)) in LISTED.iter().enumerate() {
-            let mut line = format!("  {name:<8}");
+            let mut line = format!("  {name:<9}");
             if self.sent[index] > 0 {
                 line += &format!(" sent:{}", self.sent[index]);
             }
@@ -122,7 +147,7 @@ impl Seen {
             let never = listed.iter().filter(|answer| self.answers[index][**answer as usize] == 0);
             missing.extend(never.map(|answer| format!("{name} never answered {answer}")));
         }
-        for function in [Function::Setup, Function::Step] {
+        for function in [Function::Setup, Function::OldSetup, Function::Step, Function::OldStep] {
             if self.sent[function as usize] == 0 {
                 missing.push(format!("{} never gave a command", LISTED[function as usize].0));
             }

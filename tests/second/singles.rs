@@ -41,7 +41,7 @@ fn page_asked(random: &mut Random) -> u8 {
 /// Largest plans from headers: from a good one, then from one with a damage, or of another length, page or DA4S.
 pub fn headers(pair: &mut Pair, random: &mut Random) -> Same<()> {
     let page = page_asked(random);
-    let caps = EXTENDED | TELEMETRY | random.pick(&[0, ETDAS, DA4S, DA4S | ETDAS]);
+    let caps = TELEMETRY | random.pick(&[0, EXTENDED, EXTENDED]) | random.pick(&[0, ETDAS, DA4S, DA4S | ETDAS]);
     let da4s = caps & DA4S != 0;
     let last = generate::header_last(random, da4s);
     let mut header = generate::header(random, page, last);
@@ -105,7 +105,7 @@ pub fn builder(pair: &mut Pair, random: &mut Random) -> Same<()> {
     pair.words(page, create, mcda, rae, offset, blocks).map(|_| ())
 }
 
-/// A plan that setup takes.
+/// A plan that setup takes, one in four of an old run.
 pub fn good_setup(random: &mut Random) -> Setup {
     let page = random.pick(&[HOST_PAGE, CONTROLLER_PAGE]);
     let create = page == HOST_PAGE && random.chance(50);
@@ -113,6 +113,9 @@ pub fn good_setup(random: &mut Random) -> Setup {
     let mut caps = (random.byte() & 31) | EXTENDED | TELEMETRY;
     if area == 4 {
         caps |= DA4S | ETDAS;
+    }
+    if random.chance(25) {
+        caps &= !EXTENDED;
     }
     let near = 1 + random.up_to(8_191);
     let attempts = 1 + random.up_to(65_534);
@@ -122,16 +125,27 @@ pub fn good_setup(random: &mut Random) -> Setup {
         create: random.flag(create),
         area,
         caps,
-        chunk: random.pick(&[1, 2, near, 8_191, 8_192]),
+        chunk: generate::chunk(random, caps, &[1, 2, near, 8_191, 8_192]),
         attempts: random.pick(&[1, 2, attempts, 255, 256, 257, 65_534, 65_535]),
         room: random.pick(&[0, 512, room, 536_870_400, 536_870_912]),
+    }
+}
+
+/// Makes of capabilities and chunk two that no setup takes together: with extended data none or too many blocks a command, without it any.
+pub fn mismatch_chunk(random: &mut Random, caps: &mut u8, chunk: &mut u32) {
+    if random.chance(50) {
+        *caps |= EXTENDED;
+        *chunk = random.pick(&[0, 0, 8_193, 1 << 16, u32::MAX]);
+    } else {
+        *caps &= !EXTENDED;
+        *chunk = random.pick(&[1, 2, 31, 32, 8_192, 8_193, u32::MAX]);
     }
 }
 
 /// Moves one argument of a setup to a limit or over it.
 pub fn stretch_setup(random: &mut Random, setup: &mut Setup) {
     let byte = random.byte();
-    match random.up_to(8) {
+    match random.up_to(9) {
         0 => setup.page = random.pick(&[0, 6, 7, 8, 9, byte]),
         1 => setup.create = random.pick(&[0, 1, 2, 255]),
         2 => setup.area = random.pick(&[0, 1, 4, 5, byte]),
@@ -140,6 +154,7 @@ pub fn stretch_setup(random: &mut Random, setup: &mut Setup) {
         5 => setup.chunk = random.pick(&[0, 1, 8_192, 8_193, u32::MAX]),
         6 => setup.attempts = random.pick(&[0, 1, 257, 65_535, 65_536, 65_537, u32::MAX]),
         7 => setup.room = random.pick(&[0, 1, 256, 511, 513, 536_870_911, 536_870_912]),
+        8 => setup.caps ^= EXTENDED,
         _ => {
             setup.room =
                 random.pick(&[536_870_913, 536_871_424, 1 << 32, (1 << 32) + 512, 1 << 63, u64::MAX, u64::MAX - 511])

@@ -1,7 +1,7 @@
 //! Steps on random states, sane, forged and damaged, with random completions.
 
 use crate::boundary::{get_u32, get_u64, put_u32, put_u64, STATE_BYTES};
-use crate::generate::{self, last_of, DA4S};
+use crate::generate::{self, is_old, last_of, DA4S, EXTENDED};
 use crate::orders::{header_state, small_setup};
 use crate::pair::{Pair, Same};
 use crate::random::Random;
@@ -14,6 +14,10 @@ fn sane_state(random: &mut Random, blocks: u32) -> [u8; STATE_BYTES] {
     let setup = small_setup(random, blocks as u64);
     let da4s = setup.caps & DA4S != 0;
     let mut last = generate::last_blocks(random, da4s, blocks / 2);
+    if is_old(setup.caps) {
+        // No area of an old run is past block 31.
+        last = last.map(|blocks| blocks.min(31));
+    }
     let phase = random.pick(&[0, 1, 1, 1, 1, 2, 2, 2, 3, 3, 4, 4, 5]);
     if phase == 0 {
         last = [0; 4];
@@ -26,6 +30,8 @@ fn sane_state(random: &mut Random, blocks: u32) -> [u8; STATE_BYTES] {
     let wanted = last[setup.area as usize - 1];
     if phase == CHUNK && wanted == 0 {
         state[0] = 2;
+    } else if phase == CHUNK && is_old(setup.caps) {
+        put_u32(&mut state, 20, 1);
     } else if phase == CHUNK {
         put_u32(&mut state, 20, 1 + random.up_to(wanted - 1));
     }
@@ -37,7 +43,7 @@ fn forge(random: &mut Random, state: &mut [u8; STATE_BYTES]) {
     let attempts = get_u32(state, 12);
     let limit = 2 + attempts as u64 * 1_048_577;
     let byte = random.byte();
-    match random.up_to(13) {
+    match random.up_to(15) {
         0 => state[0] = random.pick(&[0, 1, 2, 3, 4, 4]),
         1 => state[1] = random.pick(&[7, 8, 6, byte]),
         2 => state[2] ^= 1,
@@ -51,6 +57,8 @@ fn forge(random: &mut Random, state: &mut [u8; STATE_BYTES]) {
         10 => put_u64(state, 32, random.pick(&[0, limit, limit + 1, limit + 2, 1 << 32, u64::MAX])),
         11 => put_u32(state, random.pick(&[40, 44, 48, 52]), random.pick(&[0, 1, 3, 8, 9, 0x0080_0000, u32::MAX])),
         12 => state[5] = byte,
+        13 => state[4] ^= EXTENDED,
+        14 => forge_reach(random, state),
         _ => forge_edge(random, state),
     }
 }
@@ -65,6 +73,22 @@ fn forge_edge(random: &mut Random, state: &mut [u8; STATE_BYTES]) {
     put_u64(state, 24, if random.chance(30) { room.saturating_sub(512) } else { room });
     if state[0] == CHUNK {
         put_u32(state, 20, random.pick(&[wanted, wanted, wanted + 1, 1, 0]));
+    }
+}
+
+/// The wanted area at block 31 and past it, in a copy that has room for it or not quite, with extended data and without.
+fn forge_reach(random: &mut Random, state: &mut [u8; STATE_BYTES]) {
+    if random.chance(50) {
+        state[4] ^= EXTENDED;
+        let chunk = generate::chunk(random, state[4], &[1, 31, 32, 8_192]);
+        put_u32(state, 8, chunk);
+    }
+    let area = state[3].clamp(1, 4) as usize;
+    let wanted = random.pick(&[30, 31, 31, 32, 32, 33]);
+    put_u32(state, 36 + 4 * area, wanted);
+    put_u64(state, 24, 512 * (wanted as u64 + random.pick(&[0, 0, 0, 1]) - random.pick(&[0, 0, 0, 1])));
+    if state[0] == CHUNK {
+        put_u32(state, 20, random.pick(&[1, 1, 1, 0, 2, wanted]));
     }
 }
 
@@ -90,11 +114,15 @@ fn near_last(random: &mut Random, state: &[u8; STATE_BYTES]) -> LastBlocks {
     last
 }
 
-/// Data for a success: a header that may match, may open an attempt, or is bad; or a chunk.
+/// Data for a success: a header that may match, may open an attempt, or is bad; or a chunk, in an old run after any header.
 fn data(random: &mut Random, state: &[u8; STATE_BYTES]) -> Vec<u8> {
     let (page, da4s) = (state[1], state[4] & DA4S != 0);
     if state[0] == CHUNK {
         let area = state[3].clamp(1, 4) as usize;
+        if is_old(state[4]) {
+            let blocks = get_u32(state, 36 + 4 * area).min(64);
+            return random.bytes((1 + blocks as usize) * BLOCK);
+        }
         let left = get_u32(state, 36 + 4 * area).wrapping_sub(get_u32(state, 20)).wrapping_add(1);
         let blocks = get_u32(state, 8).min(left).min(64);
         return random.bytes(blocks as usize * BLOCK);
@@ -104,6 +132,9 @@ fn data(random: &mut Random, state: &[u8; STATE_BYTES]) -> Vec<u8> {
     let mut last = generate::last_blocks(random, da4s, most);
     if random.chance(60) {
         last = near_last(random, state);
+    } else if is_old(state[4]) && random.chance(50) {
+        let blocks = random.pick(&[30, 31, 32, 33]);
+        last = generate::last_with(random, da4s, state[3].clamp(1, 4), blocks);
     }
     if random.chance(10) {
         generate::break_rule(random, &mut last, da4s);
@@ -120,7 +151,7 @@ fn data(random: &mut Random, state: &[u8; STATE_BYTES]) -> Vec<u8> {
 }
 
 pub fn steps(pair: &mut Pair, random: &mut Random) -> Same<()> {
-    let blocks = random.pick(&[0, 1, 2, 6, 6, 10, 16]);
+    let blocks = random.pick(&[0, 1, 2, 6, 6, 10, 16, 31, 32, 64]);
     let mut state = sane_state(random, blocks);
     if random.chance(30) {
         for _ in 0..random.pick(&[1, 1, 1, 2, 3]) {
@@ -133,10 +164,11 @@ pub fn steps(pair: &mut Pair, random: &mut Random) -> Same<()> {
     let ok = random.chance(85);
     let mut bytes = if ok || random.chance(10) { data(random, &state) } else { Vec::new() };
     if random.chance(5) {
-        let length = random.pick(&[0, 1, 511, 512, 513, 1_024]);
+        let whole = bytes.len();
+        let length = random.pick(&[0, 1, 511, 512, 513, 1_024, whole + 1, whole + BLOCK, whole.saturating_sub(BLOCK)]);
         bytes.resize(length, 3);
     }
-    let room = get_u64(&state, 24).min(32 * 512) as usize;
+    let room = get_u64(&state, 24).min(64 * 512) as usize;
     let room = if random.chance(5) { random.pick(&[0, 1, 512, room + 1, room + 512]) } else { room };
     let mut copy = random.bytes(room);
     let flag = random.flag(ok);
