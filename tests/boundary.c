@@ -68,6 +68,7 @@ static void expect_at(int line, const char *text, int holds) {
 
 enum {
     CAPS = BUMBAZEEL_EXTENDED | BUMBAZEEL_TELEMETRY | BUMBAZEEL_DA4S | BUMBAZEEL_ETDAS | BUMBAZEEL_MCDAS,
+    OLD_CAPS = CAPS & ~BUMBAZEEL_EXTENDED, /* of a drive that is collected in an old run */
     BLOCK = BUMBAZEEL_BLOCK,
     BLOCKS = 4
 };
@@ -99,10 +100,11 @@ static uint8_t plan(struct wanted w, const uint8_t *header, size_t bytes, struct
     return answer;
 }
 
-/* The plan that refuses the fewest headers of a page: of the greatest area that the capabilities allow, a block a command, into the largest copy. */
+/* The plan that refuses the fewest headers of a page: of the greatest area that the capabilities allow, a block a command or without extended data
+ * in one, into the largest copy. */
 static struct wanted largest(uint8_t page, uint8_t caps) {
     const uint8_t both = BUMBAZEEL_DA4S | BUMBAZEEL_ETDAS;
-    struct wanted w = {page, (uint8_t)((caps & both) == both ? 4 : 3), caps, 1, BUMBAZEEL_MOST_ROOM};
+    struct wanted w = {page, (uint8_t)((caps & both) == both ? 4 : 3), caps, caps & BUMBAZEEL_EXTENDED ? 1u : 0u, BUMBAZEEL_MOST_ROOM};
     return w;
 }
 
@@ -352,6 +354,10 @@ static const struct {
     {{2, 1, 0, 1}, A2 | A3 | A4, A2 | A3 | A4},
     {{5, 3, 1, 1}, A2 | A3, A2 | A3 | A4},
     {{5, 3, 1, 0}, A2 | A3 | A4, A2 | A3},
+    {{31, 31, 31, 31}, 0, A4},
+    {{31, 31, 31, 0}, A4, 0},
+    {{32, 32, 32, 32}, 0, A4},
+    {{32, 32, 32, 0}, A4, 0},
 };
 enum { ROWS = sizeof areas / sizeof *areas, SHOWN = ROWS * 3 * 4 * 3 };
 
@@ -394,8 +400,16 @@ static uint16_t starts(int page, int field) {
     return field == BUMBAZEEL_FIELD_SCOPE && page == 0x07 ? 380 : field <= BUMBAZEEL_FIELD_EMPTY ? bytes[field] : 0;
 }
 
+/* The last block of an area in a header of 512 bytes. */
+static uint32_t last_of(const uint8_t *header, uint8_t area) {
+    uint32_t last = 0;
+    for (int at = area == 4 ? 19 : 7 + 2 * area; at >= (area == 4 ? 16 : 6 + 2 * area); at--)
+        last = last << 8 | header[at];
+    return last;
+}
+
 /* The largest plan tells the first field at fault and where it starts, and zeros besides. Of a good header it tells what it says, but on 08h
- * without data available. */
+ * without data available, and without extended data past block 31. */
 static void plan_finds(uint8_t page, uint8_t caps, const uint8_t *header, size_t bytes, unsigned faults) {
     const struct wanted w = largest(page, caps);
     struct bumbazeel_planned planned, want;
@@ -407,9 +421,11 @@ static void plan_finds(uint8_t page, uint8_t caps, const uint8_t *header, size_t
         expect(answer == BUMBAZEEL_BAD_HEADER && !memcmp(&planned, &want, sizeof planned));
     else if (page == 0x08 && header[382] == 0)
         expect(answer == BUMBAZEEL_NOTHING);
+    else if (w.chunk == 0 && last_of(header, w.area) > 31)
+        expect(answer == BUMBAZEEL_OUT_OF_REACH);
     else
         expect(answer == BUMBAZEEL_SUCCESS && planned.bad_field == 0 && planned.bad_byte == 0 && planned.page == page);
-    expect(planned.chunks == planned.last[w.area - 1]); /* a block a command */
+    expect(planned.chunks == (w.chunk ? planned.last[w.area - 1] : planned.last[w.area - 1] > 0)); /* a block a command, or all blocks in one */
 }
 
 /* Each fault alone and every two with no third are among the headers, but for those that cannot be: 07h may be available but empty, and TCDA
@@ -587,18 +603,20 @@ static void field_bytes(void) {
 }
 
 /* A collection of one block that awaits a header: the first one, or in its last attempt a closing one or the one after a refused chunk. Of DA4S
- * and ETDAS the drive has one. */
-static struct bumbazeel_state awaiting(uint8_t page, uint8_t da4s, uint8_t phase) {
-    const uint8_t caps = (uint8_t)(CAPS & ~(da4s ? BUMBAZEEL_ETDAS : BUMBAZEEL_DA4S));
+ * and ETDAS the drive has one, and with `old` no extended data. */
+static struct bumbazeel_state awaiting(uint8_t page, uint8_t da4s, uint8_t old, uint8_t phase) {
+    const uint8_t caps = (uint8_t)((old ? OLD_CAPS : CAPS) & ~(da4s ? BUMBAZEEL_ETDAS : BUMBAZEEL_DA4S));
     struct bumbazeel_state state;
     struct bumbazeel_next next;
-    uint8_t header[BLOCK], copy[BLOCK];
-    expect(bumbazeel_setup(page, 0, 1, caps, 1, 2, sizeof copy, &state, &next) == BUMBAZEEL_SEND && next.bad_field == 0);
+    uint8_t header[2 * BLOCK], copy[BLOCK];
+    memset(header, 0xff, sizeof header);
+    expect(bumbazeel_setup(page, 0, 1, caps, !old, 2, sizeof copy, &state, &next) == BUMBAZEEL_SEND && next.bad_field == 0);
     if (phase != BUMBAZEEL_AWAITS_FIRST_HEADER) {
         expect(show(header, page, da4s, ROWS * 3 + (da4s ? 1 : 2)) == 0); /* data is available, and each area has one block */
-        expect(bumbazeel_step(&state, 1, header, sizeof header, copy, sizeof copy, &next) == BUMBAZEEL_SEND && next.bad_field == 0);
+        expect(bumbazeel_step(&state, 1, header, BLOCK, copy, sizeof copy, &next) == BUMBAZEEL_SEND && next.bad_field == 0);
         const uint8_t came = phase == BUMBAZEEL_AWAITS_CLOSING_HEADER;
-        expect(bumbazeel_step(&state, came, header, came ? BLOCK : 0, copy, sizeof copy, &next) == BUMBAZEEL_SEND && next.bad_field == 0);
+        const size_t bytes = came ? (old ? 2 : 1) * BLOCK : 0;
+        expect(bumbazeel_step(&state, came, header, bytes, copy, sizeof copy, &next) == BUMBAZEEL_SEND && next.bad_field == 0);
         state.attempt = state.attempts;
     }
     expect(state.phase == phase);
@@ -607,8 +625,8 @@ static struct bumbazeel_state awaiting(uint8_t page, uint8_t da4s, uint8_t phase
 
 /* Ending 7 has the first field at fault; commands, refusals and other endings have none. A first header is answered as a plan from it is. Answers
  * which endings there were, as bits. */
-static unsigned faults_in_collections(uint8_t page, uint8_t da4s, uint8_t phase) {
-    const struct bumbazeel_state awaits = awaiting(page, da4s, phase);
+static unsigned faults_in_collections(uint8_t page, uint8_t da4s, uint8_t old, uint8_t phase) {
+    const struct bumbazeel_state awaits = awaiting(page, da4s, old, phase);
     unsigned endings = 0;
     for (unsigned number = 0; number < SHOWN; number++) {
         struct bumbazeel_state state = awaits;
@@ -639,18 +657,20 @@ static unsigned faults_in_collections(uint8_t page, uint8_t da4s, uint8_t phase)
     return endings;
 }
 
-/* The same at a first header, a closing one and one after a refused chunk: every ending from 7 to 12 is among them. */
+/* The same at a first header, a closing one and one after a refused chunk: every ending from 7 to 12 is among them, and without extended data 19. */
 static void endings(void) {
     enum { FIRST = BUMBAZEEL_AWAITS_FIRST_HEADER, CLOSING = BUMBAZEEL_AWAITS_CLOSING_HEADER, REFUSED = BUMBAZEEL_AWAITS_CLOSING_HEADER_AFTER_REFUSAL };
     const unsigned bad = 1u << BUMBAZEEL_BAD_HEADER, large = 1u << BUMBAZEEL_NO_ROOM, used_up = 1u << BUMBAZEEL_ATTEMPTS_USED_UP;
     const unsigned withdrawn = 1u << BUMBAZEEL_WITHDRAWN, nothing = 1u << BUMBAZEEL_NOTHING, broke = 1u << BUMBAZEEL_BROKE_ITS_WORD;
-    for (uint8_t da4s = 0; da4s < 2; da4s++) {
-        expect(faults_in_collections(0x07, da4s, FIRST) == (bad | large));
-        expect(faults_in_collections(0x08, da4s, FIRST) == (bad | large | nothing));
-        expect(faults_in_collections(0x07, da4s, CLOSING) == (bad | used_up | 1u << BUMBAZEEL_SUCCESS));
-        expect(faults_in_collections(0x08, da4s, CLOSING) == (bad | used_up | withdrawn));
-        expect(faults_in_collections(0x07, da4s, REFUSED) == (bad | used_up | broke));
-        expect(faults_in_collections(0x08, da4s, REFUSED) == (bad | used_up | broke | withdrawn));
+    for (uint8_t side = 0; side < 4; side++) {
+        const uint8_t da4s = side % 2, old = side / 2;
+        const unsigned far = old ? 1u << BUMBAZEEL_OUT_OF_REACH : 0;
+        expect(faults_in_collections(0x07, da4s, old, FIRST) == (bad | large | far));
+        expect(faults_in_collections(0x08, da4s, old, FIRST) == (bad | large | far | nothing));
+        expect(faults_in_collections(0x07, da4s, old, CLOSING) == (bad | used_up | 1u << BUMBAZEEL_SUCCESS));
+        expect(faults_in_collections(0x08, da4s, old, CLOSING) == (bad | used_up | withdrawn));
+        expect(faults_in_collections(0x07, da4s, old, REFUSED) == (bad | used_up | broke));
+        expect(faults_in_collections(0x08, da4s, old, REFUSED) == (bad | used_up | broke | withdrawn));
     }
 }
 
@@ -854,6 +874,11 @@ static void limits(void) {
     expect(bumbazeel_words(BUMBAZEEL_CONTROLLER_PAGE, 0, 0, 1, last, blocks, built) == BUMBAZEEL_SUCCESS);
     expect(bumbazeel_words(page, 0, 0, 1, last + 1, blocks, built) == BUMBAZEEL_BAD_SETUP);
     expect(bumbazeel_words(page, 0, 0, 1, last, blocks + 1, built) == BUMBAZEEL_BAD_SETUP);
+    show_blocks(header, page, BUMBAZEEL_REACH);
+    expect(bumbazeel_plan(page, 4, OLD_CAPS, 0, room, header, BLOCK, &planned) == BUMBAZEEL_SUCCESS && planned.chunks == 1);
+    show_blocks(header, page, BUMBAZEEL_REACH + 1);
+    expect(bumbazeel_plan(page, 4, OLD_CAPS, 0, room, header, BLOCK, &planned) == BUMBAZEEL_OUT_OF_REACH);
+    expect(bumbazeel_words(page, 0, 0, 1, 0, BUMBAZEEL_REACH + 1, built) == BUMBAZEEL_SUCCESS && built[0] >> 16 == 4096 - 1);
 }
 
 /* The answer to a state in the last of so many attempts, with so many commands sent, whose header is refused: it ends, and tells the count, or
@@ -943,6 +968,339 @@ static void refused_steps(void) {
     expect(state.phase == 5 && next.count == 1 && all(copy, sizeof copy, 0));
 }
 
+/* ---- old runs: drives without extended data, which take no offset and at most 4,096 dwords */
+
+enum { OLD_BLOCKS = 40 };
+
+/* A controller without extended data, with areas of so many blocks on both pages. */
+struct old_drive {
+    struct bumbazeel_record record;
+    uint8_t host[OLD_BLOCKS * BLOCK], controller[OLD_BLOCKS * BLOCK];
+};
+
+static void begin_old(struct old_drive *d, uint8_t caps, const uint32_t last[4]) {
+    expect(bumbazeel_fresh(caps, 0x123456, 1, 2, &d->record) == BUMBAZEEL_SUCCESS);
+    memcpy(d->record.host_last, last, sizeof d->record.host_last);
+    memcpy(d->record.controller_last, last, sizeof d->record.controller_last);
+    d->record.available = 1;
+    for (size_t i = 0; i < sizeof d->host; i++) {
+        d->host[i] = (uint8_t)(i * 7 + i / BLOCK + 1);
+        d->controller[i] = (uint8_t)(i * 11 + i / BLOCK + 2);
+    }
+}
+
+/* A row of old runs: the last block of the wanted area, the room in blocks, the middle command's CDW10 but for the page, and the ending. */
+static const struct {
+    uint32_t blocks, room, middle;
+    uint8_t answer;
+} old_rows[] = {
+    {0, 0, 0, BUMBAZEEL_SUCCESS}, /* which skips the middle command */
+    {0, 9, 0, BUMBAZEEL_SUCCESS},
+    {1, 1, 0x00ff8000, BUMBAZEEL_SUCCESS},
+    {2, 9, 0x017f8000, BUMBAZEEL_SUCCESS},
+    {30, 30, 0x0f7f8000, BUMBAZEEL_SUCCESS},
+    {31, 31, 0x0fff8000, BUMBAZEEL_SUCCESS},
+    {31, OLD_BLOCKS, 0x0fff8000, BUMBAZEEL_SUCCESS},
+    {31, 30, 0, BUMBAZEEL_NO_ROOM},
+    {20, 10, 0, BUMBAZEEL_NO_ROOM},
+    {1, 0, 0, BUMBAZEEL_NO_ROOM},
+    {32, OLD_BLOCKS, 0, BUMBAZEEL_OUT_OF_REACH},
+    {32, 32, 0, BUMBAZEEL_OUT_OF_REACH},
+    {32, 31, 0, BUMBAZEEL_OUT_OF_REACH},
+    {33, 10, 0, BUMBAZEEL_OUT_OF_REACH},
+    {32, 0, 0, BUMBAZEEL_OUT_OF_REACH},
+};
+
+/* A whole old run of a row, of area 2 or of area 4: header, header and blocks together, header, on 08h the acknowledgement; or the ending that its
+ * plan has. */
+static void old_run(uint8_t page, uint8_t area, size_t row) {
+    const uint32_t blocks = old_rows[row].blocks, room = old_rows[row].room;
+    const uint8_t caps = (uint8_t)(area == 4 ? OLD_CAPS : OLD_CAPS & ~BUMBAZEEL_DA4S);
+    const uint32_t header = 0x007f8000u | page, middle = old_rows[row].middle | page, due[4] = {header, blocks ? middle : header, header, 0x007f0008};
+    const struct wanted w = {page, area, caps, 0, (size_t)room * BLOCK};
+    const uint32_t last[4] = {0, area == 4 ? 0 : blocks, area == 4 ? 1 : blocks + 1, area == 4 ? blocks : 0};
+    struct old_drive d;
+    struct bumbazeel_state state;
+    struct bumbazeel_next next;
+    struct bumbazeel_planned planned;
+    uint8_t buffer[32 * BLOCK], copy[OLD_BLOCKS * BLOCK], identifier_class;
+    uint32_t sent = 0, commands = 1;
+    begin_old(&d, caps, last);
+    memset(copy, 0x55, sizeof copy);
+    expect(bumbazeel_setup(page, 0, area, caps, 0, 2, w.room, &state, &next) == BUMBAZEEL_SEND && state.caps == caps && state.chunk == 0);
+    if (old_rows[row].answer == BUMBAZEEL_SUCCESS)
+        commands = 2 + (blocks > 0) + (page == 0x08);
+    while (next.kind == BUMBAZEEL_SEND && sent < commands) {
+        const uint32_t is = sent > 0 && blocks == 0 ? sent + 1 : sent; /* which of the four */
+        const size_t bytes = ((next.words[0] >> 16) + 1) * 4;
+        expect(next.words[0] == due[is] && all(next.words + 1, 4 * sizeof *next.words, 0) && bytes <= sizeof buffer);
+        expect((state.phase == BUMBAZEEL_AWAITS_CHUNK) == (is == 1) && state.at == (is == 1));
+        expect(bumbazeel_command(&d.record, d.host, sizeof d.host, d.controller, sizeof d.controller, last, NULL, 0, NULL, 0, next.words, buffer,
+                                 sizeof buffer, &identifier_class) == BUMBAZEEL_SUCCESS);
+        if (sent == 0)
+            expect(plan(w, buffer, BLOCK, &planned) == old_rows[row].answer && planned.chunks == (commands > 1 && blocks > 0));
+        bumbazeel_step(&state, 1, buffer, bytes, copy, w.room, &next);
+        sent++;
+    }
+    expect(next.kind == BUMBAZEEL_ENDED && next.answer == old_rows[row].answer && next.newer == 0 && next.bad_field == 0);
+    expect(sent == commands && next.count == commands && state.phase == BUMBAZEEL_AWAITS_NOTHING && state.attempt == 1);
+    const size_t kept = next.answer == BUMBAZEEL_SUCCESS ? (size_t)blocks * BLOCK : 0;
+    expect(!memcmp(copy, page == 0x07 ? d.host : d.controller, kept) && all(copy + kept, w.room - kept, 0));
+    expect(all(copy + w.room, sizeof copy - w.room, 0x55));
+    expect((d.record.available == 0) == (page == 0x08 && commands > 1)); /* acknowledged */
+}
+
+/* A header of an old drive with data available, and areas of so many blocks. */
+static void show_old(uint8_t *header, uint8_t page, uint8_t blocks, uint8_t generation) {
+    memset(header, 0, BLOCK);
+    header[0] = page;
+    header[8] = header[10] = header[12] = blocks;
+    header[page == 0x07 ? 381 : 383] = generation;
+    header[382] = 1;
+}
+
+/* An old run of two blocks after its first header and its middle command, which brought a header and blocks of B1h, or was refused. */
+static struct bumbazeel_state after_middle(uint8_t page, uint32_t attempts, const uint8_t *middle, uint8_t *copy, size_t room) {
+    struct bumbazeel_state state;
+    struct bumbazeel_next next;
+    uint8_t data[3 * BLOCK];
+    expect(bumbazeel_setup(page, 0, 3, BUMBAZEEL_TELEMETRY, 0, attempts, room, &state, &next) == BUMBAZEEL_SEND);
+    show_old(data, page, 2, 5);
+    expect(bumbazeel_step(&state, 1, data, BLOCK, copy, room, &next) == BUMBAZEEL_SEND && next.words[0] == (0x017f8000u | page));
+    memset(data, 0xb1, sizeof data);
+    if (middle)
+        memcpy(data, middle, BLOCK);
+    expect(bumbazeel_step(&state, middle != NULL, data, middle ? sizeof data : 0, copy, room, &next) == BUMBAZEEL_SEND);
+    expect(next.words[0] == (0x007f8000u | page) && all(next.words + 1, 4 * sizeof *next.words, 0) && state.at == 0 && state.attempt == 1);
+    expect(state.phase == (middle ? BUMBAZEEL_AWAITS_CLOSING_HEADER : BUMBAZEEL_AWAITS_CLOSING_HEADER_AFTER_REFUSAL));
+    return state;
+}
+
+/* The middle command's own header is not judged, whatever it shows: the closing one decides. */
+static void old_middles(uint8_t page) {
+    for (int kind = 0; kind < 8; kind++) {
+        struct bumbazeel_state state;
+        struct bumbazeel_next next;
+        uint8_t middle[BLOCK], closing[BLOCK], copy[4 * BLOCK];
+        show_old(middle, page, 2, (uint8_t)(kind == 1 ? 6 : 5));
+        if (kind == 2)
+            middle[382] = 0;
+        else if (kind == 3)
+            middle[382] = 2;
+        else if (kind == 4)
+            middle[0] = (uint8_t)(15 - page);
+        else if (kind == 5)
+            show_old(middle, page, 32, 5);
+        else if (kind > 5)
+            memset(middle, kind == 6 ? 0 : 0xff, sizeof middle);
+        memset(copy, 0x55, sizeof copy);
+        state = after_middle(page, 2, middle, copy, sizeof copy);
+        expect(all(copy, 2 * BLOCK, 0xb1) && all(copy + 2 * BLOCK, 2 * BLOCK, 0x55));
+        show_old(closing, page, 2, 5);
+        if (page == 0x08) {
+            expect(bumbazeel_step(&state, 1, closing, BLOCK, copy, sizeof copy, &next) == BUMBAZEEL_SEND && next.words[0] == 0x007f0008);
+            expect(state.phase == BUMBAZEEL_AWAITS_ACKNOWLEDGEMENT && all(next.words + 1, 4 * sizeof *next.words, 0));
+        }
+        const uint8_t newer = page == 0x08 && kind % 2;
+        closing[383] = (uint8_t)(closing[383] + newer);
+        expect(bumbazeel_step(&state, 1, closing, BLOCK, copy, sizeof copy, &next) == BUMBAZEEL_ENDED);
+        expect(next.answer == BUMBAZEEL_SUCCESS && next.newer == newer && next.count == (page == 0x08 ? 4 : 3));
+        expect(all(copy, 2 * BLOCK, 0xb1) && all(copy + 2 * BLOCK, 2 * BLOCK, 0));
+    }
+}
+
+/* What an old run of two blocks makes of a closing header: attempts allowed, the header's areas and generation, the ending after a middle command
+ * that came and after a refused one, or 255 for a command on both pages and 254 for the acknowledgement or success; and the attempt then. */
+static const struct {
+    uint32_t attempts;
+    uint8_t blocks, generation, came, refused;
+    uint32_t attempt;
+} old_closings[] = {
+    {2, 2, 5, 254, 12, 1}, /* a match */
+    {1, 2, 5, 254, 12, 1},
+    {2, 2, 6, 255, 255, 2}, /* mismatches */
+    {2, 3, 5, 255, 255, 2},
+    {1, 2, 6, 9, 9, 1},
+    {1, 31, 5, 9, 9, 1},
+    {1, 32, 6, 9, 9, 1},
+    {2, 31, 5, 8, 8, 2}, /* larger than the copy */
+    {2, 32, 5, 19, 19, 2}, /* past block 31 too */
+    {2, 32, 6, 19, 19, 2},
+    {2, 255, 6, 19, 19, 2},
+};
+
+static void old_later(uint8_t page) {
+    for (size_t i = 0; i < 2 * sizeof old_closings / sizeof *old_closings; i++) {
+        const uint8_t came = i % 2 == 0, due = came ? old_closings[i / 2].came : old_closings[i / 2].refused;
+        struct bumbazeel_state state;
+        struct bumbazeel_next next;
+        uint8_t header[BLOCK], copy[4 * BLOCK];
+        memset(copy, 0x55, sizeof copy);
+        show_old(header, page, 2, 5);
+        state = after_middle(page, old_closings[i / 2].attempts, came ? header : NULL, copy, sizeof copy);
+        show_old(header, page, old_closings[i / 2].blocks, old_closings[i / 2].generation);
+        const uint8_t kind = bumbazeel_step(&state, 1, header, BLOCK, copy, sizeof copy, &next);
+        expect(state.attempt == old_closings[i / 2].attempt && next.bad_field == 0);
+        if (due == 255) {
+            const uint32_t dwords = 128 * (old_closings[i / 2].blocks + 1u) - 1;
+            expect(kind == BUMBAZEEL_SEND && state.phase == BUMBAZEEL_AWAITS_CHUNK && state.at == 1);
+            expect(next.words[0] == (dwords << 16 | 0x8000u | page) && all(next.words + 1, 4 * sizeof *next.words, 0));
+        } else if (due == 254)
+            expect(page == 0x07 ? kind == BUMBAZEEL_ENDED && !next.answer : kind == BUMBAZEEL_SEND && next.words[0] == 0x007f0008);
+        else {
+            expect(kind == BUMBAZEEL_ENDED && next.answer == due && next.count == 3 && all(copy, sizeof copy, 0));
+            expect(state.generation == 5 && state.last[2] == 2 && state.last[3] == 0); /* of the header that opened the attempt */
+        }
+    }
+}
+
+/* Capabilities, wanted area and chunk, and setup's and a plan's answer: with extended data a chunk of 1 to 8,192, without it none. */
+static const struct {
+    uint8_t caps, area;
+    uint32_t chunk;
+    uint8_t answer;
+} old_setups[] = {
+    {BUMBAZEEL_TELEMETRY, 3, 0, 0},
+    {BUMBAZEEL_TELEMETRY, 3, 1, 13},
+    {BUMBAZEEL_TELEMETRY, 3, 31, 13},
+    {BUMBAZEEL_TELEMETRY, 3, 8192, 13},
+    {BUMBAZEEL_TELEMETRY, 3, 0xffffffff, 13},
+    {BUMBAZEEL_TELEMETRY | BUMBAZEEL_EXTENDED, 3, 0, 13},
+    {BUMBAZEEL_TELEMETRY | BUMBAZEEL_EXTENDED, 3, 1, 0},
+    {BUMBAZEEL_TELEMETRY | BUMBAZEEL_EXTENDED, 3, 8192, 0},
+    {BUMBAZEEL_TELEMETRY | BUMBAZEEL_EXTENDED, 3, 8193, 13},
+    {0, 3, 0, 13},
+    {BUMBAZEEL_EXTENDED, 3, 1, 13},
+    {32, 3, 0, 13},
+    {32 | BUMBAZEEL_TELEMETRY, 3, 0, 13},
+    {BUMBAZEEL_TELEMETRY, 4, 0, 6},
+    {BUMBAZEEL_TELEMETRY | BUMBAZEEL_DA4S, 4, 0, 6},
+    {BUMBAZEEL_TELEMETRY | BUMBAZEEL_ETDAS, 4, 0, 6},
+    {BUMBAZEEL_TELEMETRY | BUMBAZEEL_DA4S | BUMBAZEEL_ETDAS, 4, 0, 0},
+    {BUMBAZEEL_TELEMETRY | BUMBAZEEL_DA4S | BUMBAZEEL_ETDAS, 4, 1, 13},
+    {BUMBAZEEL_TELEMETRY | BUMBAZEEL_DA4S | BUMBAZEEL_MCDAS, 3, 0, 0},
+};
+
+static void old_limits(void) {
+    uint8_t header[BLOCK];
+    struct bumbazeel_planned planned;
+    show_old(header, 0x07, 0, 1);
+    for (size_t i = 0; i < sizeof old_setups / sizeof *old_setups; i++) {
+        const struct wanted w = {0x07, old_setups[i].area, old_setups[i].caps, old_setups[i].chunk, BLOCK};
+        const uint8_t answer = old_setups[i].answer, kept = (uint8_t)(w.caps > 31 ? 0 : w.caps);
+        struct bumbazeel_state state;
+        struct bumbazeel_next next;
+        memset(&state, 0xff, sizeof state);
+        expect(bumbazeel_setup(w.page, 1, w.area, w.caps, w.chunk, 1, w.room, &state, &next) == (answer ? BUMBAZEEL_REFUSED : BUMBAZEEL_SEND));
+        expect(next.answer == answer && state.caps == kept && state.chunk == w.chunk && state.phase == (answer ? 5 : 0) && state.count == !answer);
+        if (!answer)
+            expect(next.words[0] == (w.caps & BUMBAZEEL_MCDAS ? 0x007f8107u | w.area << 9 : 0x007f8107u));
+        expect(plan(w, header, BLOCK, &planned) == answer && planned.chunks == 0);
+    }
+}
+
+/* A step on this state, with as many bytes of data, is refused with this answer, and leaves state and copy. */
+static void old_refused(struct bumbazeel_state before, uint8_t ok, size_t bytes, uint8_t answer) {
+    static uint8_t data[(OLD_BLOCKS + 1) * BLOCK], copy[OLD_BLOCKS * BLOCK];
+    struct bumbazeel_state state = before;
+    struct bumbazeel_next next;
+    memset(copy, 0x55, sizeof copy);
+    memset(&next, 0xff, sizeof next);
+    expect(bumbazeel_step(&state, ok, data, bytes, copy, sizeof copy, &next) == BUMBAZEEL_REFUSED && next.answer == answer);
+    expect(!memcmp(&state, &before, sizeof state) && all(copy, sizeof copy, 0x55));
+    expect(next.newer == 0 && next.bad_field == 0 && next.count == 0 && all(next.words, sizeof next.words, 0));
+}
+
+/* States of an old run: 13 where the area is past block 31, whatever is awaited, where the chunk starts at any block but 1, and where it has a
+ * chunk or its capabilities have extended data; 15 where the middle command does not bring header and blocks. */
+static void old_states(uint8_t page) {
+    static const uint32_t bad_starts[] = {0, 2, 3, 31, 32, 0xffffffff};
+    struct bumbazeel_state fine, state;
+    struct bumbazeel_next next;
+    uint8_t header[BLOCK], copy[OLD_BLOCKS * BLOCK];
+    expect(bumbazeel_setup(page, 0, 3, BUMBAZEEL_TELEMETRY, 0, 2, sizeof copy, &fine, &next) == BUMBAZEEL_SEND);
+    show_old(header, page, 31, 5);
+    expect(bumbazeel_step(&fine, 1, header, BLOCK, copy, sizeof copy, &next) == BUMBAZEEL_SEND && fine.at == 1 && fine.last[2] == 31);
+    for (size_t i = 0; i < sizeof bad_starts / sizeof *bad_starts; i++) {
+        state = fine;
+        state.at = bad_starts[i];
+        old_refused(state, 1, 32 * BLOCK, BUMBAZEEL_BAD_SETUP);
+        old_refused(state, 0, 0, BUMBAZEEL_BAD_SETUP);
+    }
+    for (uint8_t phase = 0; phase < 6; phase++) {
+        const uint8_t ended = phase == BUMBAZEEL_AWAITS_NOTHING;
+        state = fine;
+        state.phase = phase;
+        state.at = phase == BUMBAZEEL_AWAITS_CHUNK;
+        state.last[2] = 32;
+        old_refused(state, 0, 0, ended ? BUMBAZEEL_ALREADY_ENDED : BUMBAZEEL_BAD_SETUP);
+        old_refused(state, 1, phase == BUMBAZEEL_AWAITS_CHUNK ? 33 * BLOCK : BLOCK, ended ? BUMBAZEEL_ALREADY_ENDED : BUMBAZEEL_BAD_SETUP);
+        state.last[2] = 31;
+        state.chunk = 31;
+        old_refused(state, 0, 0, ended ? BUMBAZEEL_ALREADY_ENDED : BUMBAZEEL_BAD_SETUP);
+        state.chunk = 0;
+        state.caps |= BUMBAZEEL_EXTENDED;
+        old_refused(state, 0, 0, ended ? BUMBAZEEL_ALREADY_ENDED : BUMBAZEEL_BAD_SETUP);
+    }
+    state = fine;
+    state.last[2] = 0;
+    old_refused(state, 1, BLOCK, BUMBAZEEL_BAD_SETUP);
+    for (size_t blocks = 0; blocks <= OLD_BLOCKS; blocks++)
+        if (blocks != 32)
+            old_refused(fine, 1, blocks * BLOCK, BUMBAZEEL_DOES_NOT_FIT);
+    old_refused(fine, 1, 32 * BLOCK - 1, BUMBAZEEL_DOES_NOT_FIT);
+    old_refused(fine, 1, 32 * BLOCK + 1, BUMBAZEEL_DOES_NOT_FIT);
+    old_refused(fine, 0, 32 * BLOCK, BUMBAZEEL_DOES_NOT_FIT);
+    expect(bumbazeel_step(&fine, 0, NULL, 0, copy, sizeof copy, &next) == BUMBAZEEL_SEND);
+    expect(fine.phase == BUMBAZEEL_AWAITS_CLOSING_HEADER_AFTER_REFUSAL && fine.at == 0);
+}
+
+/* 13, 6, 7, 11, 19, 8, 0 of a plan without extended data: all is wrong at first, and is mended in this order. */
+static void old_order(void) {
+    struct wanted w = {0x08, 4, OLD_CAPS & ~BUMBAZEEL_ETDAS, 1, 10 * BLOCK};
+    struct bumbazeel_planned planned;
+    uint8_t header[BLOCK];
+    show_blocks(header, 0x08, 32);
+    header[381] = 3; /* scope */
+    header[382] = 0;
+    expect(plan(w, header, BLOCK, &planned) == BUMBAZEEL_BAD_SETUP);
+    w.chunk = 0;
+    expect(plan(w, header, BLOCK, &planned) == BUMBAZEEL_NO_AREA_4);
+    w.caps = OLD_CAPS;
+    expect(plan(w, header, BLOCK, &planned) == BUMBAZEEL_BAD_HEADER && planned.bad_field == BUMBAZEEL_FIELD_SCOPE);
+    header[381] = 2;
+    expect(plan(w, header, BLOCK, &planned) == BUMBAZEEL_NOTHING);
+    header[382] = 1;
+    expect(plan(w, header, BLOCK, &planned) == BUMBAZEEL_OUT_OF_REACH);
+    w.room = BUMBAZEEL_MOST_ROOM;
+    expect(plan(w, header, BLOCK, &planned) == BUMBAZEEL_OUT_OF_REACH);
+    show_blocks(header, 0x08, 31);
+    w.room = 10 * BLOCK;
+    expect(plan(w, header, BLOCK, &planned) == BUMBAZEEL_NO_ROOM);
+    w.room = 31 * BLOCK;
+    expect(plan(w, header, BLOCK, &planned) == BUMBAZEEL_SUCCESS && planned.chunks == 1 && planned.last[3] == 31 && planned.page == 0x08);
+    w.caps |= BUMBAZEEL_EXTENDED;
+    w.chunk = 8192;
+    w.room = BUMBAZEEL_MOST_ROOM;
+    show_blocks(header, 0x08, 1048576);
+    expect(plan(w, header, BLOCK, &planned) == BUMBAZEEL_SUCCESS && planned.chunks == 128); /* all of it is in reach */
+}
+
+static void old_runs(void) {
+    for (uint8_t page = 0x07; page <= 0x08; page++) {
+        for (size_t row = 0; row < sizeof old_rows / sizeof *old_rows; row++) {
+            old_run(page, 2, row);
+            if (old_rows[row].blocks) /* 08h shows data only where area 3 has a block, and then area 4 has one */
+                old_run(page, 4, row);
+        }
+        old_middles(page);
+        old_later(page);
+        old_states(page);
+    }
+    old_limits();
+    old_order();
+}
+
 int main(void) {
     numbers();
     words();
@@ -954,6 +1312,8 @@ int main(void) {
         faults(page, CAPS);
         faults(page, CAPS & ~BUMBAZEEL_ETDAS);
         faults(page, CAPS & ~BUMBAZEEL_DA4S);
+        faults(page, OLD_CAPS);
+        faults(page, OLD_CAPS & ~BUMBAZEEL_DA4S);
         plan_lists(page);
     }
     plan_order();
@@ -971,6 +1331,7 @@ int main(void) {
     attempts();
     refused_setups();
     refused_steps();
+    old_runs();
     if (failures)
         return 1;
     puts("boundary: ok");

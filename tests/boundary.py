@@ -74,7 +74,7 @@ built = WORDS()
 same("words", (0, [0x007F8707, 0, 0, 0, 0]), (words(7, 1, 3, 1, 0, 1, built), list(built)))
 same("refused words", (13, [0] * 5), (words(8, 1, 0, 1, 0, 1, built), list(built)))
 
-BLOCK, BLOCKS, EVERY_CAP = 512, 4, 31
+BLOCK, BLOCKS, EVERY_CAP, EXTENDED, TELEMETRY = 512, 4, 31, 1, 2
 record, host, controller = Record(), (c_uint8 * (BLOCKS * BLOCK))(), (c_uint8 * (BLOCKS * BLOCK))()
 contents, reason = bytes(i * 7 + i // BLOCK & 255 for i in range(BLOCKS * BLOCK)), b"reason".ljust(128, b"\0")
 candidate = ((c_uint32 * 4)(1, 2, 3, 4), (c_uint8 * len(contents))(*contents), len(contents), (c_uint8 * 128)(*reason), 128)
@@ -213,8 +213,8 @@ def planned_from(content, page, area, caps, chunk, room):
 
 
 def found(page, caps, content):
-    """The answer, field at fault and byte of the largest plan: of the greatest area, a block a command, into the largest copy."""
-    answer, _ = planned_from(content, page, 4 if caps & 12 == 12 else 3, caps, 1, 536870912)
+    """The answer, field at fault and byte of the largest plan: of the greatest area, a block a command or in an old run 0, into the largest copy."""
+    answer, _ = planned_from(content, page, 4 if caps & 12 == 12 else 3, caps, caps & EXTENDED, 536870912)
     return answer, planned.bad_field, planned.bad_byte
 
 
@@ -242,7 +242,7 @@ def can_be(page, faults):
     return EMPTY not in faults or (page == 8 and AVAILABLE not in faults)
 
 
-for page, caps in itertools.product((7, 8), (EVERY_CAP, EVERY_CAP & ~8, EVERY_CAP & ~4)):
+for page, caps in itertools.product((7, 8), (EVERY_CAP, EVERY_CAP & ~8, EVERY_CAP & ~4, EVERY_CAP & ~EXTENDED, TELEMETRY)):
     da4s = caps >> 2 & 1
     every_set = itertools.chain.from_iterable(itertools.combinations(FIELDS, count) for count in range(9))
     for faults in (faults for faults in every_set if can_be(page, faults)):
@@ -258,7 +258,8 @@ for page, caps in itertools.product((7, 8), (EVERY_CAP, EVERY_CAP & ~8, EVERY_CA
     same("a header as another page", [(13, 0, 0)] * 3, [found(9, caps, content) for content in (neither, neither + b"7", b"")])
     for last, with_da4s, without in LIMITS:
         field = with_da4s if da4s else without
-        same(f"{page:02X}h, caps {caps}, last blocks {last}", (7 if field else 0, field, BYTES_OF[page][field]),
+        out_of_reach = not caps & EXTENDED and last[3 if caps & 12 == 12 else 2] > 31
+        same(f"{page:02X}h, caps {caps}, last blocks {last}", (7 if field else 19 if out_of_reach else 0, field, BYTES_OF[page][field]),
              found(page, caps, shown(page, page, last, 2, 1)))
     same(f"{page:02X}h, available but empty", 0 if page == 7 else EMPTY, found(page, caps, shown(page, page, (0, 0, 0, 0), 2, 1))[1])
     good, full = shown(page, page, (1, 1, 1, da4s), 2, 1), shown(page, page, (2, 2, 2, 2 * da4s), 2, 1)
@@ -292,6 +293,137 @@ same("the chunks of 1,048,576 blocks", [(0, 1048576), (0, 524288), (0, 349526), 
 same("no blocks", (0, 0), planned_from(shown(7, 7, (0, 0, 0, 0), 2, 0), 7, 4, EVERY_CAP, 1, 0))
 same("bytes of fields", [BYTES_OF[7 if page == 7 else 8] + [0] * 247 for page in range(256)],
      [[field_byte(page, field) for field in range(256)] for page in range(256)])
+
+
+# ---- old runs, of drives without extended data: header and blocks together from offset 0, at most 31 blocks
+def old_run(page, room, attempts, *completions):
+    """An old run of area 3 with these completions, None for a refusal: the words of its commands, what follows, the attempt and the copy."""
+    copy = (c_uint8 * (room * BLOCK))(*[5] * (room * BLOCK))
+    setup(page, 0, 3, TELEMETRY, 0, attempts, len(copy), byref(state), byref(then))
+    listed = [list(then.words)]
+    for content in completions:
+        data = content or b""
+        step(byref(state), content is not None, (c_uint8 * len(data))(*data), len(data), copy, len(copy), byref(then))
+        listed += [list(then.words)] if then.kind == 0 else []
+    same("a field at fault", then.answer == 7, then.bad_field > 0)
+    return [cdw10 for cdw10, *rest in listed if not any(rest)], (then.kind, then.answer, then.count), state.attempt, bytes(copy)
+
+
+def old_header(page, blocks, generation=9, available=1):
+    """A header of 512 bytes with areas of so many blocks. A page's own generation is byte 381 on 07h and byte 383 on 08h."""
+    content = bytearray(shown(page, page, (blocks, blocks, blocks, 0), 2, available))
+    content[381 if page == 7 else 383] = generation
+    return bytes(content)
+
+
+area = bytes(i * 13 + i // BLOCK & 255 for i in range(40 * BLOCK))
+for page in (7, 8):
+    asked, acknowledged = 0x007F8000 | page, [0x007F0008] if page == 8 else []
+    for blocks, room, middle in ((1, 1, 0x00FF8000), (1, 9, 0x00FF8000), (2, 2, 0x017F8000), (30, 30, 0x0F7F8000), (31, 31, 0x0FFF8000),
+                                 (31, 40, 0x0FFF8000)):
+        first, blocks_of, words_due = old_header(page, blocks), area[:blocks * BLOCK], [asked, middle | page, asked] + acknowledged
+        # what the header of the middle command shows is not judged
+        for unjudged in (first, old_header(page, blocks, 10), old_header(page, blocks, 9, 0), old_header(page, 32), bytes(BLOCK), b"\xff" * BLOCK):
+            same(f"{page:02X}h, an old run of {blocks} blocks",
+                 (words_due, (1, 0, len(words_due)), 1, blocks_of + bytes((room - blocks) * BLOCK)),
+                 old_run(page, room, 1, first, unjudged + blocks_of, first, *[first] * len(acknowledged)))
+        same(f"{page:02X}h, the middle command of {blocks} blocks refused, then a match", (words_due[:3], (1, 12, 3), 1, bytes(room * BLOCK)),
+             old_run(page, room, 2, first, None, first))
+    for blocks, room, answer in ((31, 30, 8), (20, 10, 8), (1, 0, 8), (32, 40, 19), (32, 32, 19), (32, 31, 19), (33, 10, 19), (32, 0, 19)):
+        same(f"{page:02X}h, an old run of {blocks} blocks into {room}", ([asked], (1, answer, 1), 1, bytes(room * BLOCK)),
+             old_run(page, room, 2, old_header(page, blocks)))
+        same(f"{page:02X}h, a plan of {blocks} blocks into {room}", (answer, 0),
+             planned_from(old_header(page, blocks), page, 3, TELEMETRY, 0, room * BLOCK))
+    same(f"{page:02X}h, plans of 1 to 31 blocks", [(0, 1)] * 31,
+         [planned_from(old_header(page, blocks), page, 3, TELEMETRY, 0, 31 * BLOCK) for blocks in range(1, 32)])
+    # 9, 19, 8 at a later header, the last two in the next attempt's number; after a refused middle command too
+    before = (old_header(page, 2), old_header(page, 2) + area[:2 * BLOCK])
+    for middle in (before[1], None):
+        for attempts, blocks, due in ((1, 32, (9, 1)), (1, 2, (9, 1)), (2, 32, (19, 2)), (2, 255, (19, 2)), (2, 31, (8, 2))):
+            same(f"{page:02X}h, {blocks} blocks at a later header of {attempts} attempts",
+                 ([asked, 0x017F8000 | page, asked], (1, due[0], 3), due[1], bytes(4 * BLOCK)),
+                 old_run(page, 4, attempts, before[0], middle, old_header(page, blocks, 10)))
+            same("the generation and last blocks that an ended state keeps", (9, [2, 2, 2, 0]), (state.generation, list(state.last)))
+        same(f"{page:02X}h, the next attempt", ([asked, 0x017F8000 | page, asked, 0x01FF8000 | page], (0, 0, 0), 2),
+             old_run(page, 4, 2, before[0], middle, old_header(page, 3))[:3])
+    # 7 and 11 or 10 before 19
+    scope, none = shown(page, page, (32, 32, 32, 0), 3, 0), old_header(page, 32, 10, 0)
+    same(f"{page:02X}h, block 32 at bad headers", (7, 7), (old_run(page, 4, 2, scope)[1][1], old_run(page, 4, 2, *before, scope)[1][1]))
+    same(f"{page:02X}h, block 32 at headers without data available", (19, 19) if page == 7 else (11, 10),
+         (old_run(page, 4, 2, none)[1][1], old_run(page, 4, 2, *before, none)[1][1]))
+before = (old_header(8, 2), old_header(8, 2) + area[:2 * BLOCK], old_header(8, 2))
+same("captures acknowledged unread", [0, 1], [old_run(8, 2, 1, *before, old_header(8, 3, generation)) and then.newer for generation in (9, 10)])
+same("07h, an old run of no blocks", ([0x007F8007] * 2, (1, 0, 2), 1, bytes(4 * BLOCK)), old_run(7, 4, 1, *[old_header(7, 0)] * 2))
+same("a plan of no blocks", (0, 0), planned_from(old_header(7, 0), 7, 3, TELEMETRY, 0, 0))
+same("plans in order: 13, 6, 7, 11, 19, 8, 0", [13, 6, 7, 11, 19, 8, 0],
+     [planned_from(content, 8, 4, caps, chunk, room * BLOCK)[0] for content, caps, chunk, room in (
+         (shown(8, 8, (1, 1, 1, 32), 3, 0), 22, 1, 1), (shown(8, 8, (1, 1, 1, 32), 3, 0), 22, 0, 1), (shown(8, 8, (1, 1, 1, 32), 3, 0), 30, 0, 1),
+         (shown(8, 8, (1, 1, 1, 32), 2, 0), 30, 0, 1), (shown(8, 8, (1, 1, 1, 32), 2, 1), 30, 0, 1), (shown(8, 8, (1, 1, 1, 31), 2, 1), 30, 0, 1),
+         (shown(8, 8, (1, 1, 1, 31), 2, 1), 30, 0, 31))])
+same("1,000 blocks with extended data", (0, 1), planned_from(shown(8, 8, (1, 1, 1, 1000), 2, 1), 8, 4, EVERY_CAP, 8192, 1000 * BLOCK))
+
+
+def begun(caps, chunk, area=3):
+    """A setup's answer, and what its state keeps of capabilities and chunk."""
+    setup(7, 0, area, caps, chunk, 1, BLOCK, byref(state), byref(then))
+    return then.answer, state.caps, state.chunk
+
+
+same("setups with extended data and without",
+     [(0, 2, 0), (13, 2, 1), (13, 2, 31), (13, 2, 8192), (13, 3, 0), (0, 3, 1), (0, 3, 8192), (13, 0, 0), (13, 0, 0)],
+     [begun(*arguments) for arguments in ((2, 0), (2, 1), (2, 31), (2, 8192), (3, 0), (3, 1), (3, 8192), (0, 0), (34, 0))])
+same("a plan with a sixth capability", (13, 0), planned_from(old_header(7, 1), 7, 3, 34, 0, BLOCK))
+same("area 2 in reach, area 3 not", [(0, 1), (19, 0)],
+     [planned_from(shown(7, 7, (0, 31, 32, 0), 2, 1), 7, area, TELEMETRY, 0, 40 * BLOCK) for area in (2, 3)])
+setup(7, 1, 3, 18, 0, 1, BLOCK, byref(state), byref(then))
+same("an old run's first command with create and MCDAS", [0x007F8707, 0, 0, 0, 0], list(then.words))
+same("area 4 without extended data", [6, 6, 6, 0, 13], [begun(caps, chunk, 4)[0] for caps, chunk in ((2, 0), (6, 0), (10, 0), (14, 0), (14, 1))])
+
+
+def lent_state(at, blocks, data_blocks, ok=1):
+    """A step's answer in an old run whose middle command is awaited, with so many blocks of data and these numbers in the state."""
+    old_run(7, 40, 1, old_header(7, 31))
+    state.at, state.last[2] = at, blocks
+    copy, data = (c_uint8 * (40 * BLOCK))(*[5] * (40 * BLOCK)), (c_uint8 * (data_blocks * BLOCK))()
+    before = bytes(state), bytes(copy)
+    step(byref(state), ok, data, len(data), copy, len(copy), byref(then))
+    if then.kind == 2:
+        same("state and copy after a refusal", before, (bytes(state), bytes(copy)))
+    return then.kind, then.answer
+
+
+same("states of an old run", [(0, 0), (0, 0), (2, 13), (2, 13), (2, 13), (2, 13), (2, 13)],
+     [lent_state(at, blocks, blocks + 1) for at, blocks in ((1, 31), (1, 1), (2, 31), (0, 31), (31, 31), (1, 32), (1, 0))])
+for phase in range(6):
+    refusals = []
+    for field, value in (("last", 32), ("chunk", 1), ("caps", 3)):
+        old_run(7, 40, 1, old_header(7, 31))
+        state.phase, state.at = phase, phase == 1
+        if field == "last":
+            state.last[2] = value
+        else:
+            setattr(state, field, value)
+        step(byref(state), 0, None, 0, (c_uint8 * (40 * BLOCK))(), 40 * BLOCK, byref(then))
+        refusals.append((then.kind, then.answer))
+    same(f"states of an old run in phase {phase}: block 32, a chunk, extended data", [(2, 14 if phase == 5 else 13)] * 3, refusals)
+same("data of an old run", [(2, 15), (2, 15), (2, 15), (2, 15), (0, 0)], [lent_state(1, 31, *sent) for sent in ((31,), (33,), (0,), (32, 0), (0, 0))])
+
+# the library's own controller without extended data: 31 blocks of 08h, and the acknowledgement
+fresh(TELEMETRY, 0, 1, 2, byref(record))
+store, buffer, copy = ((c_uint8 * (count * BLOCK))() for count in (31, 32, 33))
+captured = ((c_uint32 * 4)(0, 0, 31, 31), (c_uint8 * (31 * BLOCK))(*area[:31 * BLOCK]), 31 * BLOCK, *candidate[3:])
+same("a capture of 31 blocks", 0, capture(byref(record), None, 0, store, len(store), *captured))
+setup(8, 0, 3, record.caps, 0, 1, len(copy), byref(state), byref(then))
+listed = []
+while then.kind == 0 and len(listed) < 10:
+    listed.append(list(then.words))
+    size = ((then.words[0] >> 16) + 1) * 4
+    same("a command without extended data", 0,
+         command(byref(record), None, 0, store, len(store), *captured, then.words, buffer, len(buffer), byref(identifier_class)))
+    step(byref(state), 1, buffer, size, copy, len(copy), byref(then))
+same("the commands of an old run", [[cdw10, 0, 0, 0, 0] for cdw10 in (0x007F8008, 0x0FFF8008, 0x007F8008, 0x007F0008)], listed)
+same("its ending", (1, 0, 0, 4), (then.kind, then.answer, then.newer, then.count))
+same("its copy, and the page that was acknowledged", (area[:31 * BLOCK] + bytes(2 * BLOCK), 0), (bytes(copy), record.available))
 if not failures:
     print("boundary: ok")
 sys.exit(failures > 0)
