@@ -18,7 +18,7 @@
 #include <string.h>
 #include <sys/mman.h>
 
-enum { BLOCK = BUMBAZEEL_BLOCK, REASON_BYTES = BUMBAZEEL_REASON, MOST_BLOCKS = 16, MOST = MOST_BLOCKS * BLOCK, MOST_CALLS = 64 };
+enum { BLOCK = BUMBAZEEL_BLOCK, REASON_BYTES = BUMBAZEEL_REASON, FEW_BLOCKS = 16, MOST_BLOCKS = 35, MOST = MOST_BLOCKS * BLOCK, MOST_CALLS = 64 };
 enum { PAGE = 4096, MARGIN = 64, ROOM = MOST + PAGE }; /* of a slot */
 enum { HEADER_07 = BUMBAZEEL_HOST_PAGE, HEADER_08 = BUMBAZEEL_CONTROLLER_PAGE, CREATE_BIT = 1 << 8, RAE_BIT = 1 << 15 };
 static const uint64_t MOST_ATTEMPT_COMMANDS = 1048577;
@@ -31,8 +31,11 @@ static void broken(const char *test, int line) {
 
 /* ---- what was reached */
 
-/* The last three are the fields that a plan, a first header and a later header had at fault. */
-enum function { PLAN, BUILD, SETUP, STEP, FRESH, COMMAND, CAPTURE, DROP, NUMBERS, PLAN_FIELD, FIRST_FIELD, LATER_FIELD, FUNCTIONS };
+/* A plan, a setup and a step are told apart by extended data: without it they are an old run's. The last three are the fields that a plan, a first
+ * header and a later header had at fault. */
+enum function {
+    PLAN, OLD_PLAN, BUILD, SETUP, OLD_SETUP, STEP, OLD_STEP, FRESH, COMMAND, CAPTURE, DROP, NUMBERS, PLAN_FIELD, FIRST_FIELD, LATER_FIELD, FUNCTIONS
+};
 enum { VARIANTS = 8, ANSWERS = 32, SENDS = 16 }; /* a step that goes on counts as answer 16 */
 __attribute__((section("__libfuzzer_extra_counters"))) static uint8_t reached[FUNCTIONS][VARIANTS][ANSWERS];
 
@@ -51,15 +54,17 @@ static uint8_t byte(void) {
     return *input++;
 }
 
-/* Mostly a number that small stores have room for, else one beside a limit, else any. */
+/* Mostly a number that small stores have room for, else one beside a limit, else one about block 31, else any. */
 static uint32_t number(void) {
     static const uint32_t limits[] = {65535, 65536,  1048576,  1048577, 8191, 8192, 8193,       255,
                                       256,   257,    0xFFFFFF, 0x1000000, 512, 511,  536870912, 0xFFFFFFFF};
     uint8_t first = byte();
     if (first < 0xC0)
-        return first % (MOST_BLOCKS + 2);
+        return first % (FEW_BLOCKS + 2);
     if (first < 0xF0)
         return limits[first % (sizeof limits / sizeof *limits)];
+    if (first < 0xF8)
+        return BUMBAZEEL_REACH - 1 + first % 4;
     uint32_t any = 0;
     for (int i = 0; i < 4; i++)
         any = any << 8 | byte();
@@ -74,6 +79,20 @@ static size_t about(size_t bytes) {
     else if (change >= 0xC0)
         bytes = bytes < change % 32u ? 0 : bytes - change % 32u;
     return bytes < MOST ? bytes : MOST;
+}
+
+/* Bytes of some whole blocks, or now and then of a part: mostly of few, else of so many that an area past block 31 may have room. */
+static size_t some_blocks(void) {
+    uint8_t first = byte();
+    return about((size_t)(first < 0xF0 ? first % (FEW_BLOCKS + 1) : MOST_BLOCKS - first % 8) * BLOCK);
+}
+
+static bool is_old(uint8_t caps) { return !(caps & BUMBAZEEL_EXTENDED); }
+
+/* Blocks a command, mostly such that a setup takes: without extended data some even numbers are 0. */
+static uint32_t chunk_for(uint8_t caps) {
+    uint32_t chunk = number();
+    return is_old(caps) && chunk < 8 && chunk % 2 == 0 ? 0 : chunk;
 }
 
 /* ---- slots */
@@ -157,10 +176,11 @@ struct wanted {
     size_t room;
 };
 
-/* The plan that refuses the fewest headers of a page: of the greatest area that the capabilities allow, a block a command, into the largest copy. */
+/* The plan that refuses the fewest headers of a page: of the greatest area that the capabilities allow, a block a command or without extended data
+ * in one, into the largest copy. */
 static struct wanted largest(uint8_t page, uint8_t caps) {
     bool area_4 = caps & BUMBAZEEL_DA4S && caps & BUMBAZEEL_ETDAS;
-    return (struct wanted){page, area_4 ? 4 : 3, caps, 1, BUMBAZEEL_MOST_ROOM};
+    return (struct wanted){page, area_4 ? 4 : 3, caps, !is_old(caps), BUMBAZEEL_MOST_ROOM};
 }
 
 /* Plans from what the slot for data holds. */
@@ -168,10 +188,13 @@ static uint8_t plan_into(struct bumbazeel_planned *planned, struct wanted w) {
     return bumbazeel_plan(w.page, w.area, w.caps, w.chunk, w.room, slots[DATA].lent, slots[DATA].bytes, planned);
 }
 
+/* Whether setup takes a chunk: 1 to 8,192 blocks, but none without extended data. */
+static bool chunk_is_good(uint8_t caps, uint32_t chunk) { return is_old(caps) ? !chunk : chunk >= 1 && chunk <= BUMBAZEEL_MOST_BLOCKS; }
+
 /* What setup's limits refuse: 13, then 6. Create and attempts have none here. */
 static uint8_t refused_by_limits(struct wanted w) {
-    if ((w.page != HEADER_07 && w.page != HEADER_08) || w.area < 1 || w.area > 4 || w.caps > 31 || !(w.caps & BUMBAZEEL_EXTENDED) ||
-        !(w.caps & BUMBAZEEL_TELEMETRY) || w.chunk < 1 || w.chunk > BUMBAZEEL_MOST_BLOCKS || w.room % BLOCK || w.room > BUMBAZEEL_MOST_ROOM)
+    if ((w.page != HEADER_07 && w.page != HEADER_08) || w.area < 1 || w.area > 4 || w.caps > 31 || !(w.caps & BUMBAZEEL_TELEMETRY) ||
+        !chunk_is_good(w.caps, w.chunk) || w.room % BLOCK || w.room > BUMBAZEEL_MOST_ROOM)
         return BUMBAZEEL_BAD_SETUP;
     return w.area > largest(w.page, w.caps).area ? BUMBAZEEL_NO_AREA_4 : BUMBAZEEL_SUCCESS;
 }
@@ -189,7 +212,7 @@ static struct bumbazeel_planned fields_of(const uint8_t *h, uint8_t page) {
 }
 
 /* A plan that was not refused: its fields are the header's, which is a good one, and its chunks hold the wanted area, the last of them a part of
- * it too. */
+ * it too. Without extended data one does, of up to 31 blocks. */
 static void plan_is_the_headers(struct wanted w) {
     const struct bumbazeel_planned *p = THE_PLANNED;
     struct bumbazeel_planned want = fields_of(slots[DATA].lent, w.page);
@@ -198,7 +221,8 @@ static void plan_is_the_headers(struct wanted w) {
     must(slots[DATA].bytes == BLOCK && p->page == w.page && !memcmp(p, &want, sizeof want));
     must(last_blocks_keep_the_rule(p->last, w.caps & BUMBAZEEL_DA4S) && p->scope <= 2 && p->available <= 1);
     must(w.page == HEADER_07 || (p->available && p->last[2]));
-    must(chunks * w.chunk >= wanted && (wanted ? (chunks - 1) * w.chunk < wanted : !chunks));
+    const uint32_t chunk = is_old(w.caps) ? BUMBAZEEL_REACH : w.chunk;
+    must(chunks * chunk >= wanted && (wanted ? (chunks - 1) * chunk < wanted : !chunks) && (chunks <= 1 || !is_old(w.caps)));
 }
 
 /* Whether a field after the length is at fault, in a header of 512 bytes. */
@@ -248,21 +272,29 @@ static uint8_t refusal_due(struct wanted w, struct bumbazeel_planned *told) {
     const struct bumbazeel_planned shown = fields_of(slots[DATA].lent, w.page);
     if (w.page == HEADER_08 && !shown.available)
         return BUMBAZEEL_NOTHING;
+    if (is_old(w.caps) && shown.last[w.area - 1] > BUMBAZEEL_REACH)
+        return BUMBAZEEL_OUT_OF_REACH;
     return (uint64_t)shown.last[w.area - 1] * BLOCK > w.room ? BUMBAZEEL_NO_ROOM : BUMBAZEEL_SUCCESS;
 }
 
+/* A command that a drive without extended data takes: from offset 0, and the count in bits 27:16 of CDW10. */
+static bool needs_no_extended_data(const uint32_t w[5]) { return !(w[0] >> 28) && zeros(w + 1, 4 * sizeof *w); }
+
 /* Lets a collection with so many attempts take what the slot for data holds as its first header, and run on with nothing that disturbs it. Setup
- * refuses what the plan's limits do, the header is answered as the plan is, and then the planned chunks are sent. A copy that no slot would hold is
- * set up alone. */
+ * refuses what the plan's limits do, the header is answered as the plan is, and then the planned chunks are sent: without extended data one, which
+ * brings a header too that nobody looks at. The copy is their blocks and zeros. A copy that no slot would hold is set up alone. */
 static void collection_is_as_planned(struct wanted w, uint8_t create, uint32_t attempts, uint8_t answer) {
-    static uint8_t copy[MOST];
-    static const uint8_t blocks[MOST];
+    static const uint8_t nothing[MOST];
+    static uint8_t copy[MOST], header_and_blocks[BLOCK + MOST];
+    const uint8_t *data = is_old(w.caps) ? header_and_blocks : header_and_blocks + BLOCK;
     const uint8_t *h = slots[DATA].lent;
     const bool by_limits = answer == BUMBAZEEL_BAD_SETUP || answer == BUMBAZEEL_NO_AREA_4;
     const uint32_t chunks = THE_PLANNED->chunks;
     struct bumbazeel_state s;
     struct bumbazeel_next next;
     uint32_t sent = 0;
+    memset(header_and_blocks, 0xFF, BLOCK);
+    memset(header_and_blocks + BLOCK, 0x33, MOST);
     must(bumbazeel_setup(w.page, create, w.area, w.caps, w.chunk, attempts, w.room, &s, &next) == (by_limits ? BUMBAZEEL_REFUSED : BUMBAZEEL_SEND));
     must(next.answer == (by_limits ? answer : 0));
     if (by_limits || w.room > MOST)
@@ -277,9 +309,11 @@ static void collection_is_as_planned(struct wanted w, uint8_t create, uint32_t a
         bool chunk = s.phase == BUMBAZEEL_AWAITS_CHUNK;
         size_t bytes = 4 * ((size_t)(next.words[0] >> 16 | next.words[1] << 16) + 1);
         sent += chunk;
-        must(sent <= chunks && bytes <= MOST);
-        bumbazeel_step(&s, 1, chunk ? blocks : h, bytes, copy, w.room, &next);
+        must(sent <= chunks && bytes <= MOST && (!is_old(w.caps) || needs_no_extended_data(next.words)));
+        bumbazeel_step(&s, 1, chunk ? data : h, bytes, copy, w.room, &next);
     }
+    const size_t kept = answer ? 0 : (size_t)s.last[w.area - 1] * BLOCK;
+    must(!memcmp(copy, header_and_blocks + BLOCK, kept) && !memcmp(copy + kept, nothing, w.room - kept));
     must(next.kind == BUMBAZEEL_ENDED && next.answer == answer && sent == chunks);
     must(next.count == (answer ? 1 : 2 + (uint64_t)chunks + (w.page == HEADER_08)));
 }
@@ -296,7 +330,7 @@ static uint8_t plan(struct wanted w) {
         plan_is_the_headers(w);
     accept_all(PLANNED);
     slots_are_as_they_must();
-    reach(PLAN, page_variant(w.page), answer);
+    reach(is_old(w.caps) ? OLD_PLAN : PLAN, page_variant(w.page), answer);
     reach(PLAN_FIELD, page_variant(w.page), THE_PLANNED->bad_field);
     collection_is_as_planned(w, 0, BUMBAZEEL_MOST_ATTEMPTS, answer);
     collection_is_as_planned(w, w.page != HEADER_08, 1, answer);
@@ -344,7 +378,7 @@ static void plan_of_anything(void) {
     if (shape & 0x10)
         w.area = byte() % 8;
     if (shape & 0x20)
-        w.chunk = number();
+        w.chunk = chunk_for(caps);
     if (shape & 0xC0)
         w.room = number() * (size_t)(shape & 0x40 ? BLOCK : 1);
     plan(w);
@@ -414,7 +448,7 @@ static void fill_last(uint32_t last[4]) {
     uint8_t shape = byte();
     uint32_t before = 0;
     for (int area = 0; area < 4; area++) {
-        last[area] = shape < 0xE0 ? before + byte() % 4 : number();
+        last[area] = shape < 0xD0 ? before + byte() % 4 : shape < 0xE0 ? before + byte() % MOST_BLOCKS : number();
         before = last[area];
     }
 }
@@ -448,8 +482,8 @@ static void damage_record(void) {
 }
 
 static void change_stores(void) {
-    size_t host = about(byte() % (MOST_BLOCKS + 1) * (size_t)BLOCK);
-    size_t controller = about(byte() % (MOST_BLOCKS + 1) * (size_t)BLOCK);
+    size_t host = some_blocks();
+    size_t controller = some_blocks();
     lend(HOST, host, 0x11);
     lend(CONTROLLER, controller, 0x22);
     agreement = UNKNOWN;
@@ -505,6 +539,8 @@ static void served_header_reads_back(const struct bumbazeel_record *shown, uint8
     must(f.available == shown->available);
     must(!memcmp(f.last, host ? shown->host_last : shown->controller_last, sizeof f.last));
     must(!memcmp(f.reason, host ? shown->host_reason : shown->controller_reason, REASON_BYTES));
+    if (is_old(shown->caps))
+        plan(largest(page, shown->caps));
 }
 
 /* What a command that succeeded may have changed, in its order: create, transfer, clearing. */
@@ -632,10 +668,16 @@ static void command_is_awaited(void) {
     const struct bumbazeel_next *next = THE_NEXT;
     uint32_t want[5];
     uint8_t creates = s->phase == BUMBAZEEL_AWAITS_FIRST_HEADER && s->create;
-    uint32_t rest = s->phase == BUMBAZEEL_AWAITS_CHUNK ? s->last[s->area - 1] - s->at + 1 : 1, blocks = rest < s->chunk ? rest : s->chunk;
-    must(s->phase < BUMBAZEEL_AWAITS_NOTHING && (s->phase == BUMBAZEEL_AWAITS_CHUNK) == (s->at > 0));
-    must(!bumbazeel_words(s->page, creates, creates && s->caps & BUMBAZEEL_MCDAS ? s->area : 0, s->phase != BUMBAZEEL_AWAITS_ACKNOWLEDGEMENT, s->at, blocks,
-                          want));
+    bool chunk = s->phase == BUMBAZEEL_AWAITS_CHUNK, old = is_old(s->caps);
+    uint32_t rest = chunk ? s->last[s->area - 1] - s->at + 1 : 1, blocks = old || rest < s->chunk ? rest : s->chunk, offset = s->at;
+    if (chunk && old) { /* header and blocks together */
+        must(s->at == 1 && s->last[s->area - 1] <= BUMBAZEEL_REACH);
+        blocks++;
+        offset = 0;
+    }
+    must(s->phase < BUMBAZEEL_AWAITS_NOTHING && chunk == (s->at > 0) && (!old || needs_no_extended_data(next->words)));
+    must(!bumbazeel_words(s->page, creates, creates && s->caps & BUMBAZEEL_MCDAS ? s->area : 0, s->phase != BUMBAZEEL_AWAITS_ACKNOWLEDGEMENT, offset,
+                          blocks, want));
     must(!memcmp(next->words, want, sizeof want) && !next->answer && !next->newer && !next->count);
     must(!untouched || (s->count == sent && count_is_good(s)));
 }
@@ -662,7 +704,7 @@ static void count_chunks(void) {
 static void setup(void) {
     uint8_t flags = byte(), caps = flags & 0x40 ? byte() % 40 : 31, page = flags & 0x80 ? byte() : HEADER_07 + (flags & 1);
     uint8_t area = flags >> 1 & 7;
-    uint32_t chunk = number(), attempts = number();
+    uint32_t chunk = chunk_for(caps), attempts = number();
     size_t room = flags & 0x20 ? number() : slots[COPY].bytes;
     lend(STATE, sizeof(struct bumbazeel_state), 0xEE);
     lend(NEXT, sizeof(struct bumbazeel_next), 0xEE);
@@ -676,7 +718,7 @@ static void setup(void) {
     accept_all(STATE);
     accept_all(NEXT);
     slots_are_as_they_must();
-    reach(SETUP, 0, kind == BUMBAZEEL_SEND ? SENDS : THE_NEXT->answer);
+    reach(is_old(caps) && caps <= 31 ? OLD_SETUP : SETUP, 0, kind == BUMBAZEEL_SEND ? SENDS : THE_NEXT->answer);
     untouched = true;
     sent = kind == BUMBAZEEL_SEND;
     if (kind == BUMBAZEEL_SEND) {
@@ -688,12 +730,28 @@ static void setup(void) {
     }
 }
 
+/* Whether a state's area fits its copy, its chunk is one that setup takes, and an awaited one starts in the area. Without extended data the area is
+ * up to block 31, and what is awaited starts at block 1. */
+static bool area_is_good(const struct bumbazeel_state *s) {
+    const uint32_t wanted = s->last[s->area - 1];
+    const bool in_area = s->phase != BUMBAZEEL_AWAITS_CHUNK || (s->at >= 1 && s->at <= wanted), fits = (uint64_t)wanted * BLOCK <= s->room;
+    const bool reached = wanted <= BUMBAZEEL_REACH && (s->phase != BUMBAZEEL_AWAITS_CHUNK || s->at == 1);
+    return chunk_is_good(s->caps, s->chunk) && in_area && fits && (!is_old(s->caps) || reached);
+}
+
+/* Whether a state's bytes are none that are damaged. */
+static bool is_intact(const struct bumbazeel_state *s) {
+    return s->phase <= BUMBAZEEL_AWAITS_NOTHING && s->create <= 1 && s->caps <= 31 && zeros(s->zero, 2) &&
+           (s->phase == BUMBAZEEL_AWAITS_CHUNK || !s->at);
+}
+
 static void step_was_refused(const struct bumbazeel_state *before) {
     const struct bumbazeel_next *next = THE_NEXT;
     must(next->answer >= BUMBAZEEL_BAD_SETUP && next->answer <= BUMBAZEEL_DOES_NOT_FIT);
+    must((next->answer == BUMBAZEEL_ALREADY_ENDED) == (before->phase == BUMBAZEEL_AWAITS_NOTHING && is_intact(before)));
     must(zeros(next->words, 20) && !next->newer && !next->count);
     must(!untouched || next->answer == (before->phase == BUMBAZEEL_AWAITS_NOTHING ? BUMBAZEEL_ALREADY_ENDED : BUMBAZEEL_DOES_NOT_FIT));
-    must(next->answer != BUMBAZEEL_DOES_NOT_FIT || (attempts_are_good(before->attempts) && count_is_good(before)));
+    must(next->answer != BUMBAZEEL_DOES_NOT_FIT || (attempts_are_good(before->attempts) && count_is_good(before) && area_is_good(before)));
 }
 
 /* Where a header has its page's own generation. */
@@ -703,10 +761,12 @@ static void run_ended(const struct bumbazeel_state *before) {
     const struct bumbazeel_next *next = THE_NEXT;
     bool success = next->answer == BUMBAZEEL_SUCCESS;
     size_t kept = success ? (size_t)before->last[before->area - 1] * BLOCK : 0;
-    must(success || (next->answer >= BUMBAZEEL_BAD_HEADER && next->answer <= BUMBAZEEL_BROKE_ITS_WORD));
+    must(success || (next->answer >= BUMBAZEEL_BAD_HEADER && next->answer <= BUMBAZEEL_BROKE_ITS_WORD) ||
+         (next->answer == BUMBAZEEL_OUT_OF_REACH && is_old(before->caps)));
     must(THE_STATE->phase == BUMBAZEEL_AWAITS_NOTHING && zeros(next->words, 20) && next->newer <= (success && before->phase == BUMBAZEEL_AWAITS_ACKNOWLEDGEMENT));
     must(!untouched || before->phase != BUMBAZEEL_AWAITS_ACKNOWLEDGEMENT || before->page == HEADER_08);
     must(next->count == before->count && (!untouched || next->count == sent) && kept <= slots[COPY].bytes);
+    must(THE_STATE->generation == before->generation && !memcmp(THE_STATE->last, before->last, sizeof before->last));
     if (success && before->phase == BUMBAZEEL_AWAITS_ACKNOWLEDGEMENT)
         must(next->newer == (slots[DATA].lent[generation_place(before->page)] != before->generation));
     if (slots[COPY].bytes)
@@ -718,20 +778,25 @@ static void first_header_was_judged(const struct bumbazeel_state *before) {
     const struct bumbazeel_next *next = THE_NEXT;
     struct bumbazeel_planned p;
     must(next->answer == plan_into(&p, wanted_by(before)) && next->bad_field == p.bad_field);
-    must(next->kind == (next->answer ? BUMBAZEEL_ENDED : BUMBAZEEL_SEND));
+    must(next->kind == (next->answer ? BUMBAZEEL_ENDED : BUMBAZEEL_SEND) && THE_STATE->attempt == before->attempt);
     if (!next->answer) {
-        must(THE_STATE->attempt == before->attempt && THE_STATE->generation == slots[DATA].lent[generation_place(before->page)]);
+        must(THE_STATE->generation == slots[DATA].lent[generation_place(before->page)]);
         attempt_was_opened(before);
     }
 }
 
-/* A header that does not match the attempt's opens the next one, if there is one and the copy has room for its area. */
+/* A header that does not match the attempt's opens the next one, if there is one and its area is in reach and the copy has room for it: 9, 19, 8. The
+ * last two are the next attempt's. */
 static void attempt_failed(const struct bumbazeel_state *before, const struct bumbazeel_planned *f, uint8_t generation) {
     const struct bumbazeel_state *s = THE_STATE;
     const struct bumbazeel_next *next = THE_NEXT;
-    bool used_up = before->attempt == before->attempts, large = (uint64_t)f->last[before->area - 1] * BLOCK > before->room;
-    if (used_up || large) {
-        must(next->kind == BUMBAZEEL_ENDED && next->answer == (used_up ? BUMBAZEEL_ATTEMPTS_USED_UP : BUMBAZEEL_NO_ROOM));
+    const uint32_t wanted = f->last[before->area - 1];
+    const bool far = is_old(before->caps) && wanted > BUMBAZEEL_REACH, large = (uint64_t)wanted * BLOCK > before->room;
+    const bool used_up = before->attempt == before->attempts;
+    if (used_up || far || large) {
+        must(next->kind == BUMBAZEEL_ENDED);
+        must(next->answer == (used_up ? BUMBAZEEL_ATTEMPTS_USED_UP : far ? BUMBAZEEL_OUT_OF_REACH : BUMBAZEEL_NO_ROOM));
+        must(s->attempt == before->attempt + !used_up);
     } else {
         must(next->kind == BUMBAZEEL_SEND && s->attempt == before->attempt + 1 && s->generation == generation &&
              !memcmp(s->last, f->last, sizeof s->last));
@@ -745,7 +810,8 @@ static void later_header_was_judged(const struct bumbazeel_state *before) {
     const struct bumbazeel_next *next = THE_NEXT;
     struct bumbazeel_planned f;
     bool host = before->page == HEADER_07;
-    uint8_t generation = h[generation_place(before->page)], planned = plan_into(&f, largest(before->page, before->caps));
+    /* With extended data no area is out of reach, and all else is the same. */
+    uint8_t generation = h[generation_place(before->page)], planned = plan_into(&f, largest(before->page, before->caps | BUMBAZEEL_EXTENDED));
     if (planned)
         must(next->answer == (planned == BUMBAZEEL_NOTHING ? BUMBAZEEL_WITHDRAWN : BUMBAZEEL_BAD_HEADER));
     else if (generation != before->generation || memcmp(f.last, before->last, sizeof f.last))
@@ -778,14 +844,19 @@ static void step(uint8_t ok) {
     must(kind == THE_NEXT->kind && kind <= BUMBAZEEL_REFUSED);
     field_is_the_plans(&before);
     accept_all(NEXT);
-    reach(STEP, before.phase, kind == BUMBAZEEL_SEND ? SENDS : THE_NEXT->answer);
+    reach(is_old(before.caps) && before.caps <= 31 ? OLD_STEP : STEP, before.phase, kind == BUMBAZEEL_SEND ? SENDS : THE_NEXT->answer);
     if (kind == BUMBAZEEL_REFUSED) {
         step_was_refused(&before);
     } else {
         must(before.phase < BUMBAZEEL_AWAITS_NOTHING && (before.phase != BUMBAZEEL_AWAITS_CHUNK || kind == BUMBAZEEL_SEND));
-        must(attempts_are_good(before.attempts) && count_is_good(&before));
-        if (before.phase == BUMBAZEEL_AWAITS_CHUNK && ok)
-            memcpy((uint8_t *)image(COPY) + (size_t)(before.at - 1) * BLOCK, slots[DATA].lent, slots[DATA].bytes);
+        must(attempts_are_good(before.attempts) && count_is_good(&before) && area_is_good(&before));
+        if (before.phase == BUMBAZEEL_AWAITS_CHUNK && ok) {
+            const size_t header = is_old(before.caps) ? BLOCK : 0; /* which is not judged, and does not go into the copy */
+            must(!header || slots[DATA].bytes == (before.last[before.area - 1] + 1) * BLOCK);
+            memcpy((uint8_t *)image(COPY) + (size_t)(before.at - 1) * BLOCK, slots[DATA].lent + header, slots[DATA].bytes - header);
+        }
+        if (before.phase == BUMBAZEEL_AWAITS_CHUNK && !ok)
+            must(THE_STATE->phase == BUMBAZEEL_AWAITS_CLOSING_HEADER_AFTER_REFUSAL);
         if (ok && before.phase == BUMBAZEEL_AWAITS_FIRST_HEADER)
             first_header_was_judged(&before);
         if (ok && (before.phase == BUMBAZEEL_AWAITS_CLOSING_HEADER || before.phase == BUMBAZEEL_AWAITS_CLOSING_HEADER_AFTER_REFUSAL))
@@ -872,7 +943,7 @@ static void damage_state(void) {
     untouched = false;
 }
 
-static void change_copy(void) { lend(COPY, about(byte() % (MOST_BLOCKS + 1) * (size_t)BLOCK), 0xCC); }
+static void change_copy(void) { lend(COPY, some_blocks(), 0xCC); }
 
 /* ---- an input */
 
@@ -911,8 +982,8 @@ int LLVMFuzzerTestOneInput(const uint8_t *bytes, size_t count) {
 #ifdef REPLAY
 static void tell_reached(void) {
     static const char *const names[FUNCTIONS] = {
-        "plan",    "words", "setup", "step",            "fresh",                   "command",
-        "capture", "drop",  "class", "field of a plan", "field of a first header", "field of a later header",
+        "plan",  "old plan", "words",   "setup", "old setup", "step",            "old step",
+        "fresh", "command",  "capture", "drop",  "class",     "field of a plan", "field of a first header", "field of a later header",
     };
     for (int f = 0; f < FUNCTIONS; f++) {
         printf("%s:", names[f]);
