@@ -8,12 +8,11 @@ use native.Mathlib.Omega.{arith}
 use native.Mathlib.Nat.{div-eq-of-lt, div-zero, add-div-right}
 use lib.Dec.{eqb}
 use borrow.Author.Tests.{ne-eqb, not-true, not-false}
-use Rattle.choices.specs.Choice.{pick, pick-cases, firstThat}
+use Rattle.choices.specs.Choice.{pick-cases, firstThat}
 use Rattle.choices.specs.Tests.{holds}
 use Rattle.answers.specs.Answers.{success, noArea4, badHeader, noRoom, nothing, badSetup, outOfReach}
 use Rattle.pages.specs.declared.Caps.{Caps}
 use Rattle.header.specs.declared.Fault.{Fault}
-use Rattle.header.specs.declared.Fault.the-variants.{None}
 use Rattle.header.specs.declared.Checked.{Checked}
 use Rattle.header.specs.Header.{faultless, checkOf}
 use Rattle.plans.specs.declared.Plan.{Plan}
@@ -79,7 +78,7 @@ module _ (page area : ℕ) (caps : Caps) (chunk room : ℕ) (h : List ℕ) {x : 
   unfolding planOf plannedBy
   plan-good ok ec eb en = rw (← answer-is, ok, en, ec, eb, ex)
 
-  pub plan-refused : {told : Fault} {r : Planned} → (answer ≡ success → ⊥) → told ≡ pick (eqb answer badHeader) (x .fault) None → r ≡ refusedPlan answer told
+  pub plan-refused : {told : Fault} {r : Planned} → (answer ≡ success → ⊥) → told ≡ faultTold answer (x .fault) → r ≡ refusedPlan answer told
       → r ≡ planOf page area caps chunk room h
   unfolding planOf plannedBy
   plan-refused z et er = er ∙ rw (← answer-is, ne-eqb answer success z, et, ex)

@@ -118,7 +118,7 @@ chunksOf p last = chunksFrom (chunkOf p) 1 (areaLast p last)
 abbrev pub mcdaOf : Plan → ℕ
 mcdaOf p = pick (p .create && p .caps .mcdas) (p .area) 0
 
--- what each phase asks for: all but a chunk read the header, RAE is 0 in the acknowledgement alone, and nothing is asked for after the ending
+-- what each phase asks for: all but a chunk read the header alone, RAE is 0 in the acknowledgement alone, and nothing is asked for after the ending
 --                                   create        MCDA    RAE offset blocks
 abbrev pub asksFor : Phase → Plan → List ℕ → Ask
 asksFor First p last = asked (p .create) (mcdaOf p) true 0 1

@@ -4,6 +4,7 @@ pub mod Bound
 pub mod Retained
 pub mod Acknowledged
 pub mod Held
+pub mod Examples
 pub mod Stale
 pub mod Old
 pub mod Listing

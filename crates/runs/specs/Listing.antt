@@ -15,17 +15,10 @@ use Rattle.plans.specs.declared.Phase.{Phase}
 use Rattle.plans.specs.declared.Phase.the-variants.{First, Chunk, Close, Ack}
 use Rattle.plans.specs.Plans.{setupAnswer, fitsRoom, inReach, areaAnswer, chunkBlocks, wordsBy, phaseAt}
 use Rattle.turns.specs.Turns.{openingOf, followingOf}
+use Rattle.runs.specs.Examples.{examplePlan}
 
 abbrev plan : Plan
-plan = record {
-  page = controllerPage;
-  create = false;
-  area = 1;
-  chunk = 3;
-  attempts = 1;
-  room = 4096;
-  caps = record { extended = true; telemetry = true; da4s = false; etdas = false; mcdas = false };
-}
+plan = examplePlan true controllerPage 1 3 1 4096
 
 abbrev last : List ℕ
 last = 7 ∷ 9 ∷ 9 ∷ 0 ∷ []
@@ -56,15 +49,7 @@ listing = refl
 -- ---- without extended data: header and blocks together, from offset 0
 
 abbrev old : ℕ → Plan
-old page = record {
-  page = page;
-  create = false;
-  area = 3;
-  chunk = 0;
-  attempts = 1;
-  room = 15872;
-  caps = record { extended = false; telemetry = true; da4s = false; etdas = false; mcdas = false };
-}
+old page = examplePlan false page 3 0 1 15872
 
 abbrev reached : List ℕ
 reached = 7 ∷ 9 ∷ 31 ∷ 0 ∷ []
@@ -88,6 +73,6 @@ old-host = refl
 
 -- an area out of reach is 19 though it is larger than the copy too, and one in reach that is larger is 8
 pub old-answers : (areaAnswer (old hostPage) (7 ∷ 9 ∷ 32 ∷ 0 ∷ []) ≡ outOfReach) × (areaAnswer (old hostPage) reached ≡ success)
-    × (areaAnswer (record { page = hostPage; create = false; area = 1; chunk = 0; attempts = 1; room = 5120; caps = old hostPage .caps }) (20 ∷ 20 ∷ 20 ∷ 0 ∷ []) ≡ noRoom)
+    × (areaAnswer (examplePlan false hostPage 1 0 1 5120) (20 ∷ 20 ∷ 20 ∷ 0 ∷ []) ≡ noRoom)
 unfolding areaAnswer inReach fitsRoom
 old-answers = (refl, refl, refl)

@@ -4,7 +4,7 @@
 use Prim.Native.Nat.{ℕ}
 use mathlib.Core.Path.{_≡_, refl}
 use mathlib.Core.List.{List, [], _∷_, _++_}
-use mathlib.Core.Bool.{true, false}
+use mathlib.Core.Bool.{false}
 use lib.ListN.{replicate}
 use Rattle.choices.specs.Tests.{holds}
 use Rattle.copies.specs.Parts.{zeros, putAt}
@@ -22,22 +22,11 @@ use Rattle.turns.specs.Touched.{touched}
 use Rattle.collection.specs.declared.Finish.{Finish}
 use Rattle.collection.specs.Collection.{expectedOf, lookOf, validState, completionFits, refusalOf, moveOf, turnBy, actOf, decideOf, setupOf, stepOf, copyAfter}
 use Rattle.runs.specs.Held.{Reply, Held, heldAfter, heldOf}
-use Rattle.runs.specs.Stale.{header, good, filled}
+use Rattle.runs.specs.Examples.{examplePlan, header, good, refused, filled}
 
--- area 1 of a drive without extended data, into a copy of two blocks, which was of ones
+-- area 1 of 07h without extended data, into a copy of two blocks, which was of ones
 abbrev plan : ℕ → Plan
-plan attempts = record {
-  page = hostPage;
-  create = false;
-  area = 1;
-  chunk = 0;
-  attempts = attempts;
-  room = 1024;
-  caps = record { extended = false; telemetry = true; da4s = false; etdas = false; mcdas = false };
-}
-
-abbrev refused : Reply
-refused = record { ok = false; bytes = [] }
+plan attempts = examplePlan false hostPage 1 0 attempts 1024
 
 abbrev heard : ℕ → List Reply → Held
 heard attempts replies = heldOf (plan attempts) (replicate 1024 1) replies

@@ -1,7 +1,6 @@
 -- A run of two attempts, computed: the second header has another generation and one block, and of the first attempt's two chunks nothing is in
 -- the finished copy. A completion that does not fit changes nothing.
 -- Assumes nothing.
-use Prim.Native.Nat.{ℕ}
 use mathlib.Core.Path.{_≡_, refl}
 use mathlib.Core.List.{List, [], _∷_, _++_}
 use mathlib.Core.Bool.{true, false}
@@ -20,29 +19,10 @@ use Rattle.turns.specs.Turns.{turnOf}
 use Rattle.turns.specs.Touched.{touched}
 use Rattle.collection.specs.Collection.{expectedOf, lookOf, validState, completionFits, refusalOf, moveOf, turnBy, actOf, decideOf, setupOf, stepOf, copyAfter}
 use Rattle.runs.specs.Held.{Reply, heldAfter, heldOf}
+use Rattle.runs.specs.Examples.{examplePlan, header, good, filled}
 
 abbrev plan : Plan
-plan = record {
-  page = hostPage;
-  create = false;
-  area = 1;
-  chunk = 1;
-  attempts = 2;
-  room = 1024;
-  caps = record { extended = true; telemetry = true; da4s = false; etdas = false; mcdas = false };
-}
-
--- a header of 07h: areas 1 to 3 end at the same block
-abbrev pub header : ℕ → ℕ → List ℕ
-header generation last =
-    (hostPage ∷ zeros 7) ++ (last ∷ 0 ∷ last ∷ 0 ∷ last ∷ 0 ∷ []) ++ zeros 366 ++ (1 ∷ generation ∷ 0 ∷ 0 ∷ []) ++ zeros 128
-
-abbrev pub good : List ℕ → Reply
-good d = record { ok = true; bytes = d }
-
--- a block of the same bytes
-abbrev pub filled : ℕ → List ℕ
-filled n = replicate 512 n
+plan = examplePlan true hostPage 1 1 2 1024
 
 abbrev replies : List Reply
 replies =
