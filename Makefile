@@ -33,6 +33,9 @@ all: build/libbumbazeel.a build/libbumbazeel.so build/bumbazeel
 # The library is made only of what is proved, so its proofs are among what it is made from.
 PROVED := crates.txt $(wildcard crates/*/src/*.rt crates/*/specs/*.antt crates/*/proofs/*.antt crates/*/proofs/*/*.antt)
 
+# The crates whose functions are the library's.
+PARTS := host_boundary controller_boundary sheet_boundary
+
 # The kit compiles for x86-64, whatever machine proves.
 COMPILED_FOR ?= x86_64
 
@@ -42,11 +45,9 @@ linkable:
 
 build/libbumbazeel.a: $(PROVED) | linkable
 	@mkdir -p build
-	rt staticlib host_boundary
-	rt staticlib controller_boundary
-	cd build && $(AR) x ../target/staticlib/libhost_boundary.a && $(AR) x ../target/staticlib/libcontroller_boundary.a
+	$(foreach part,$(PARTS),rt staticlib $(part) && (cd build && $(AR) x ../target/staticlib/lib$(part).a) &&) true
 	rm -f $@
-	$(AR) rcs $@ build/host_boundary.o build/controller_boundary.o
+	$(AR) rcs $@ $(PARTS:%=build/%.o)
 
 # The version, and so the name, stands in the header file.
 build/libbumbazeel.so: build/libbumbazeel.a program/exports.map include/bumbazeel.h Makefile

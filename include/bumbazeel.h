@@ -55,10 +55,11 @@ enum {
     BUMBAZEEL_WITHDRAWN = 10,        /* an 08h header no longer shows data available */
     BUMBAZEEL_NOTHING = 11,          /* the first 08h header shows no data available */
     BUMBAZEEL_BROKE_ITS_WORD = 12,   /* the controller refused what it may not refuse */
-    BUMBAZEEL_BAD_SETUP = 13,        /* bad setup, state or builder arguments */
+    BUMBAZEEL_BAD_SETUP = 13,        /* bad setup, state, builder arguments, run or sheet */
     BUMBAZEEL_ALREADY_ENDED = 14,
     BUMBAZEEL_DOES_NOT_FIT = 15,     /* the completion does not fit the awaited command */
-    BUMBAZEEL_OUT_OF_REACH = 19      /* wanted area past block 31, without extended data */
+    BUMBAZEEL_OUT_OF_REACH = 19,     /* wanted area past block 31, without extended data */
+    BUMBAZEEL_TOTAL_FULL = 20        /* a total of a sheet would pass 18,446,744,073,709,551,615 */
 };
 
 /* ---- what a controller can do: a byte of five bits; a byte over 31 is damaged */
@@ -169,6 +170,29 @@ struct bumbazeel_record {
 };
 BUMBAZEEL_ASSERT(sizeof(struct bumbazeel_record) == 300, "struct bumbazeel_record has 300 bytes");
 
+/* A month's sheet: exact totals over finished runs. 104 bytes. Begin one with bumbazeel_new_sheet, and lend it back as it was given, from a
+ * file too: its bytes are the same everywhere. One that is damaged gets 13: `mark` is another, `check` is not the sum, or no runs at all have
+ * these totals (blocks without a good run; commands or failed attempts without a run). The check finds any one number changed; what somebody
+ * changes with care is not found. */
+struct bumbazeel_sheet {
+    uint8_t mark[8];   /*   0: "BZSHEET1" */
+    uint64_t runs[8];  /*   8: runs by ending: those that ended with 0, 7, 8, 9, 10, 11, 12 and 19 */
+    uint64_t blocks;   /*  72: blocks kept */
+    uint64_t commands; /*  80: commands sent */
+    uint64_t failed;   /*  88: failed attempts */
+    uint64_t check;    /*  96: the twelve numbers before it added, `mark` as one of them, modulo 2^64 */
+};
+BUMBAZEEL_ASSERT(sizeof(struct bumbazeel_sheet) == 104, "struct bumbazeel_sheet has 104 bytes");
+
+/* The mean blocks a good run, divided once: `whole` and `rest` parts of as many as there are good runs. 24 bytes. */
+struct bumbazeel_mean {
+    uint8_t given;   /*  0: 1 if there is a mean, 0 if there is none: no run ended with 0 */
+    uint8_t zero[7]; /*  1 */
+    uint64_t whole;  /*  8: blocks = whole * runs[0] + rest */
+    uint64_t rest;   /* 16: less than runs[0]; 0 if there is no mean */
+};
+BUMBAZEEL_ASSERT(sizeof(struct bumbazeel_mean) == 24, "struct bumbazeel_mean has 24 bytes");
+
 /* ---- host side */
 
 /* Checks a header of `bytes` bytes and plans a collection from it: of the wanted area, `chunk` blocks a command, into a copy of `room` bytes. The
@@ -260,6 +284,23 @@ static inline uint8_t bumbazeel_capture_on(const struct bumbazeel_lent *lent) {
 static inline uint8_t bumbazeel_drop_on(const struct bumbazeel_lent *lent) {
     return bumbazeel_drop(lent->record, lent->host_store, lent->host_bytes, lent->controller_store, lent->controller_bytes);
 }
+
+/* ---- the month's sheet */
+
+/* Writes a sheet with no run entered. */
+void bumbazeel_new_sheet(struct bumbazeel_sheet *sheet);
+
+/* Enters a finished run: how it ended, the blocks kept, the commands sent, and the failed attempts (its attempt less one; with ending 9 all of
+ * them). The answer is the first of these: 13: the sheet is damaged, no run has this ending (those of `runs` are all), or blocks were kept with an
+ * ending other than 0; 20: a total would pass 18,446,744,073,709,551,615; else 0, and it is counted. With 13 and 20 the sheet is as it was. */
+uint8_t bumbazeel_enter(struct bumbazeel_sheet *sheet, uint8_t ending, uint64_t blocks, uint64_t commands, uint64_t failed);
+
+/* Adds another sheet, not the sheet itself, so that the sheets of many benches make one month: with 0 the sheet is that of all their runs. 13:
+ * either is damaged. 20: a total would pass 18,446,744,073,709,551,615. With 13 and 20 the sheet is as it was. */
+uint8_t bumbazeel_add(struct bumbazeel_sheet *sheet, const struct bumbazeel_sheet *other);
+
+/* The mean blocks a good run. 0, or 13: the sheet is damaged. *mean is always written, with 13 as zeros. */
+uint8_t bumbazeel_mean(const struct bumbazeel_sheet *sheet, struct bumbazeel_mean *mean);
 
 /* ---- numbers */
 

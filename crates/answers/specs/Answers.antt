@@ -1,4 +1,4 @@
--- Document 01, "Answer numbers", and document 02, Q-10: the seventeen answers, and the NVMe status of those that have one.
+-- Document 01, "Answer numbers", and document 02, Q-10 and Q-12: the eighteen answers, and the NVMe status of those that have one.
 -- Assumes nothing.
 use Prim.Native.Nat.{ℕ, _+_, _*_}
 use mathlib.Core.Bool.{true, false}
@@ -75,6 +75,10 @@ doesNotFit = 15
 -- wanted area past block 31, which no command without extended data reaches
 abbrev pub outOfReach : ℕ
 outOfReach = 19
+
+-- a total of a sheet would pass 18,446,744,073,709,551,615
+abbrev pub totalFull : ℕ
+totalFull = 20
 
 -- ---- their statuses
 

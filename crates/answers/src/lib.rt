@@ -1,4 +1,4 @@
-// The answers of both sides, 0 to 15 and 19, under the documents' names, with the NVMe status that an answer to a command stands for and the
+// The answers of both sides, 0 to 15, 19 and 20, under the documents' names, with the NVMe status that an answer to a command stands for and the
 // identifier's class that an answer 2 (Invalid Log Page) comes with.
 //
 // It rests on choices, for the words of its definitions. It promises that each answer's status is the one of specs/Answers.antt, that a
@@ -42,6 +42,8 @@ pub const ALREADY_ENDED: u8 = 14;
 pub const DOES_NOT_FIT: u8 = 15;
 // The wanted area is past block 31, which no command without extended data reaches.
 pub const OUT_OF_REACH: u8 = 19;
+// A total of a sheet would pass 18,446,744,073,709,551,615.
+pub const TOTAL_FULL: u8 = 20;
 
 // Status code type 0h.
 const GENERIC: u8 = 0x0;

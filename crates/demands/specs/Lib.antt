@@ -4,3 +4,4 @@ pub mod Faults
 pub mod Fields
 pub mod Plans
 pub mod Old
+pub mod Month
