@@ -4,11 +4,14 @@
 use crate::controller::{self, Candidate, Record};
 use crate::host::{self, Awaited, Collection, Fault, Outcome, Plan, Planned};
 use crate::rules::*;
+use crate::sheet::{Finished, Sheet};
 
 pub const PLANNED_BYTES: usize = 160;
 pub const STATE_BYTES: usize = 56;
 pub const NEXT_BYTES: usize = 32;
 pub const RECORD_BYTES: usize = 300;
+pub const SHEET_BYTES: usize = 104;
+pub const MEAN_BYTES: usize = 24;
 
 /// What `bumbazeel_next` says by its kind.
 pub const SEND: u8 = 0;
@@ -407,6 +410,70 @@ pub fn drop_host_data(record: &mut [u8; RECORD_BYTES], host_store: &[u8], contro
     let answer = controller::drop_host_data(&mut held, host_store, controller_store);
     *record = write_record(&held);
     answer
+}
+
+/// Where a sheet has its check, after the mark and eleven totals of eight bytes each.
+pub const CHECK: usize = 96;
+
+const MARK: [u8; 8] = *b"BZSHEET1";
+
+/// "The twelve numbers before it added, `mark` as one of them, modulo 2^64".
+pub fn check_of(bytes: &[u8; SHEET_BYTES]) -> u64 {
+    let sum: u128 = (0..12).map(|number| get_u64(bytes, 8 * number) as u128).sum();
+    (sum % (1 << 64)) as u64
+}
+
+/// A sheet's bytes read, or nothing where they are damaged: another mark, a check that is not the sum, totals that no runs have.
+pub fn read_sheet(bytes: &[u8; SHEET_BYTES]) -> Option<Sheet> {
+    let totals: Vec<u128> = (1..12).map(|number| get_u64(bytes, 8 * number) as u128).collect();
+    let sheet = Sheet::of_totals(&totals);
+    (bytes[..8] == MARK && get_u64(bytes, CHECK) == check_of(bytes) && sheet.has_runs()).then_some(sheet)
+}
+
+pub fn write_sheet(sheet: &Sheet) -> [u8; SHEET_BYTES] {
+    let mut bytes = [0; SHEET_BYTES];
+    bytes[..8].copy_from_slice(&MARK);
+    for (number, total) in (1..).zip(sheet.totals()) {
+        put_u64(&mut bytes, 8 * number, total as u64);
+    }
+    let check = check_of(&bytes);
+    put_u64(&mut bytes, CHECK, check);
+    bytes
+}
+
+pub fn new_sheet(sheet: &mut [u8; SHEET_BYTES]) {
+    *sheet = write_sheet(&Sheet::default());
+}
+
+pub fn enter(sheet: &mut [u8; SHEET_BYTES], run: Finished) -> u8 {
+    let Some(mut held) = read_sheet(sheet) else {
+        return BAD_SETUP;
+    };
+    let answer = held.enter(run);
+    *sheet = write_sheet(&held);
+    answer
+}
+
+pub fn add(sheet: &mut [u8; SHEET_BYTES], other: &[u8; SHEET_BYTES]) -> u8 {
+    let (Some(mut held), Some(other)) = (read_sheet(sheet), read_sheet(other)) else {
+        return BAD_SETUP;
+    };
+    let answer = held.add(&other);
+    *sheet = write_sheet(&held);
+    answer
+}
+
+pub fn mean(sheet: &[u8; SHEET_BYTES], mean: &mut [u8; MEAN_BYTES]) -> u8 {
+    *mean = [0; MEAN_BYTES];
+    let Some(held) = read_sheet(sheet) else {
+        return BAD_SETUP;
+    };
+    if let Some((whole, rest)) = held.mean() {
+        mean[0] = 1;
+        put_u64(mean, 8, whole as u64);
+        put_u64(mean, 16, rest as u64);
+    }
+    SUCCESS
 }
 
 fn class_number(class: Class) -> u8 {

@@ -2,6 +2,7 @@
 
 use crate::boundary::{Setup, Wanted};
 use crate::lent::{Lent, Slice};
+use crate::sheet::Finished;
 
 extern "C" {
     fn bumbazeel_plan(
@@ -72,6 +73,10 @@ extern "C" {
         controller_store: *const u8,
         controller_bytes: usize,
     ) -> u8;
+    fn bumbazeel_new_sheet(sheet: *mut u8);
+    fn bumbazeel_enter(sheet: *mut u8, ending: u8, blocks: u64, commands: u64, failed: u64) -> u8;
+    fn bumbazeel_add(sheet: *mut u8, other: *const u8) -> u8;
+    fn bumbazeel_mean(sheet: *const u8, mean: *mut u8) -> u8;
     fn bumbazeel_class(page: u8) -> u8;
     fn bumbazeel_status(answer: u8) -> u16;
 }
@@ -164,6 +169,22 @@ pub fn drop_host_data(record: &mut Lent, host_store: Slice, controller_store: Sl
             controller_store.length,
         )
     }
+}
+
+pub fn new_sheet(sheet: &mut Lent) {
+    unsafe { bumbazeel_new_sheet(sheet.pointer()) }
+}
+
+pub fn enter(sheet: &mut Lent, run: Finished) -> u8 {
+    unsafe { bumbazeel_enter(sheet.pointer(), run.ending, run.blocks, run.commands, run.failed) }
+}
+
+pub fn add(sheet: &mut Lent, other: &mut Lent) -> u8 {
+    unsafe { bumbazeel_add(sheet.pointer(), other.pointer()) }
+}
+
+pub fn mean(sheet: &mut Lent, mean: &mut Lent) -> u8 {
+    unsafe { bumbazeel_mean(sheet.pointer(), mean.pointer()) }
 }
 
 pub fn class(page: u8) -> u8 {

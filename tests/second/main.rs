@@ -3,7 +3,7 @@
 //! Written from the rules document (document 01), the requests of document 02 that have landed, their source documents,
 //! docs/DECISIONS.md where they leave a choice, and the C header file alone, and not from the library's definitions or code, so that a rule
 //! misread there is not misread here in the same way.
-//! `rules`, `controller`, `host` and `boundary` are the bench, as plain as the paper's words. The rest lends the same bytes to the
+//! `rules`, `controller`, `host`, `sheet` and `boundary` are the bench, as plain as the paper's words. The rest lends the same bytes to the
 //! library and to that bench, from a seed, and compares every answer and every lent byte after every call.
 
 mod boundary;
@@ -22,6 +22,8 @@ mod random;
 mod rules;
 mod runs;
 mod seen;
+mod sheet;
+mod sheets;
 mod singles;
 mod steps;
 
@@ -40,7 +42,7 @@ struct Kind {
     case: Case,
 }
 
-const KINDS: [Kind; 56] = [
+const KINDS: [Kind; 69] = [
     Kind { name: "01: rows of a page", share: 0, case: outside::page_rows },
     Kind { name: "01: rows of trimming", share: 0, case: outside::trimming_rows },
     Kind { name: "01: rows and listing", share: 0, case: outside::collection_rows },
@@ -58,6 +60,7 @@ const KINDS: [Kind; 56] = [
     Kind { name: "02: which field", share: 0, case: outside::which_field },
     Kind { name: "02: check and plan in one", share: 0, case: outside::check_and_plan },
     Kind { name: "02: old drives", share: 0, case: outside::old_drives },
+    Kind { name: "02: the month's sheet", share: 0, case: outside::months_sheet },
     Kind { name: "02: attempts", share: 0, case: outside::attempts_table },
     Kind { name: "02: attempts used up", share: 0, case: outside::attempts_used_up },
     Kind { name: "02: mixed copies", share: 0, case: outside::mixed_copies },
@@ -73,6 +76,13 @@ const KINDS: [Kind; 56] = [
     Kind { name: "long lists of chunks", share: 0, case: plans::long_lists },
     Kind { name: "scripted runs", share: 0, case: runs::scripts },
     Kind { name: "limits of areas", share: 0, case: large::limits },
+    Kind { name: "endings in sheets", share: 0, case: sheets::endings },
+    Kind { name: "limits of entries", share: 0, case: sheets::limits_of_entries },
+    Kind { name: "limits of additions", share: 0, case: sheets::limits_of_additions },
+    Kind { name: "flipped bits of sheets", share: 0, case: sheets::flipped_bits },
+    Kind { name: "marks and checks", share: 0, case: sheets::marks_and_checks },
+    Kind { name: "totals of no runs", share: 0, case: sheets::totals_of_no_runs },
+    Kind { name: "means of powers of two", share: 0, case: sheets::means_of_powers },
     Kind { name: "large copies", share: 1, case: large::copies },
     Kind { name: "fresh records", share: 200, case: singles::fresh },
     Kind { name: "headers", share: 1_500, case: singles::headers },
@@ -97,6 +107,11 @@ const KINDS: [Kind; 56] = [
     Kind { name: "runs", share: 520, case: runs::runs },
     Kind { name: "runs of k", share: 400, case: runs::runs_of_k },
     Kind { name: "soak tests", share: 30, case: runs::soaks },
+    Kind { name: "months of runs", share: 30, case: runs::months },
+    Kind { name: "entries", share: 1_000, case: sheets::entries },
+    Kind { name: "damaged sheets", share: 500, case: sheets::damaged },
+    Kind { name: "additions", share: 500, case: sheets::additions },
+    Kind { name: "lists of runs", share: 100, case: sheets::lists },
 ];
 
 const USAGE: &str =

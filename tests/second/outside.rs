@@ -10,6 +10,7 @@ use crate::pair::{hex, Difference, Offer, Pair, Same, World};
 use crate::random::Random;
 use crate::rules::{LastBlocks, Words, BLOCK, REASON};
 use crate::runs::words_of;
+use crate::sheet::Finished;
 
 const ALL: u8 = EXTENDED | TELEMETRY | DA4S | ETDAS | MCDAS;
 
@@ -922,6 +923,57 @@ fn old_closings(pair: &mut Pair, page: u8) -> Same<()> {
         }
     }
     Ok(())
+}
+
+/// Document 02, Q-12: entries one after the other, each with the sheet's numbers after it and the mean: "runs by ending, blocks kept, commands
+/// sent, failed attempts", "the mean blocks a good run, as a whole part and a remainder". The mark is the number 3154454548535A42h.
+pub fn months_sheet(pair: &mut Pair, _: &mut Random) -> Same<()> {
+    const MARK: u64 = 0x3154_4545_4853_5A42;
+    const FULL: u64 = 18_446_744_073_709_551_615;
+    type Row = (u8, [u64; 3], u8, [u64; 12], Option<(u64, u64)>);
+    let rows: [Row; 13] = [
+        // ending, blocks, commands and failed attempts, the answer, the totals and how far the check is over the mark, the mean
+        (6, [0, 1, 0], 13, [0; 12], None),
+        (11, [0, 1, 0], 0, [0, 0, 0, 0, 0, 1, 0, 0, 0, 1, 0, 2], None),
+        (9, [1, 9, 3], 13, [0, 0, 0, 0, 0, 1, 0, 0, 0, 1, 0, 2], None),
+        (9, [0, 9, 3], 0, [0, 0, 0, 1, 0, 1, 0, 0, 0, 10, 3, 15], None),
+        (0, [7, 6, 0], 0, [1, 0, 0, 1, 0, 1, 0, 0, 7, 16, 3, 29], Some((7, 0))),
+        // A good run of no blocks counts in the mean.
+        (0, [0, 2, 0], 0, [2, 0, 0, 1, 0, 1, 0, 0, 7, 18, 3, 32], Some((3, 1))),
+        (0, [10, 8, 1], 0, [3, 0, 0, 1, 0, 1, 0, 0, 17, 26, 4, 52], Some((5, 2))),
+        (19, [0, 1, 0], 0, [3, 0, 0, 1, 0, 1, 0, 1, 17, 27, 4, 54], Some((5, 2))),
+        (13, [FULL, FULL, FULL], 13, [3, 0, 0, 1, 0, 1, 0, 1, 17, 27, 4, 54], Some((5, 2))),
+        // "13 [..] for blocks kept with an ending other than 0; then 20"
+        (12, [FULL, FULL, FULL], 13, [3, 0, 0, 1, 0, 1, 0, 1, 17, 27, 4, 54], Some((5, 2))),
+        (0, [FULL - 16, 1, 0], 20, [3, 0, 0, 1, 0, 1, 0, 1, 17, 27, 4, 54], Some((5, 2))),
+        (0, [FULL - 17, 1, 0], 0, [4, 0, 0, 1, 0, 1, 0, 1, FULL, 28, 4, 38], Some((4_611_686_018_427_387_903, 3))),
+        (0, [1, 1, 0], 20, [4, 0, 0, 1, 0, 1, 0, 1, FULL, 28, 4, 38], Some((4_611_686_018_427_387_903, 3))),
+    ];
+    let mut sheet = pair.new_sheet()?;
+    hold(sheet == [&b"BZSHEET1"[..], &[0; 88], b"BZSHEET1"].concat()[..], "a sheet with no run entered")?;
+    for (ending, [blocks, commands, failed], answer, after, mean) in rows {
+        let run = Finished { ending, blocks, commands, failed };
+        let row = format!("{run:?}: {answer}, then {after:?}, {mean:?}");
+        hold(pair.enter(&mut sheet, run)? == answer, &row)?;
+        let [totals @ .., over] = after;
+        let numbers = [&[MARK][..], &totals, &[MARK + over]].concat();
+        let due: Vec<u8> = numbers.iter().flat_map(|number| number.to_le_bytes()).collect();
+        hold(sheet == due[..], &row)?;
+        let (given, (whole, rest)) = (mean.is_some() as u64, mean.unwrap_or((0, 0)));
+        let due: Vec<u8> = [given, whole, rest].iter().flat_map(|number| number.to_le_bytes()).collect();
+        let told = pair.mean(&sheet)?;
+        hold(told.0 == 0 && told.1 == due[..], &row)?;
+    }
+    // Another bench's sheet: first it is taken, and then it would pass.
+    let (mut other, mut month) = (pair.new_sheet()?, pair.new_sheet()?);
+    hold(
+        pair.enter(&mut other, Finished { ending: 10, blocks: 0, commands: FULL - 27, failed: 0 })? == 0,
+        "a long run",
+    )?;
+    let before = sheet;
+    hold(pair.add(&mut sheet, &other)? == 20 && sheet == before, "commands that would pass with another sheet")?;
+    hold(pair.add(&mut month, &other)? == 0 && month == other, "a sheet added to none")?;
+    hold(pair.add(&mut month, &before)? == 20 && month == other, "and then another one")
 }
 
 /// Document 02, Q-14: "Attempts may now be set up to 65,535", "13 from 65,536 attempts". A state's numbers keep setup's limits, and its

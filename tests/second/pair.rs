@@ -1,12 +1,15 @@
 //! The pair: every call goes to the library and to the second opinion on the same bytes, and every lent byte is compared afterwards,
 //! those that may not be written among them.
 
-use crate::boundary::{self, Setup, Wanted, NEXT_BYTES, PLANNED_BYTES, RECORD_BYTES, SEND, STATE_BYTES};
+use crate::boundary::{
+    self, Setup, Wanted, MEAN_BYTES, NEXT_BYTES, PLANNED_BYTES, RECORD_BYTES, SEND, SHEET_BYTES, STATE_BYTES,
+};
 use crate::controller::Candidate;
 use crate::lent::Lent;
 use crate::library::{self, Loan};
-use crate::rules::{LastBlocks, Words};
+use crate::rules::{LastBlocks, Words, SUCCESS};
 use crate::seen::{Function, Place, Seen};
+use crate::sheet::Finished;
 
 /// A difference, told in words.
 #[derive(Debug)]
@@ -105,6 +108,13 @@ fn describe_world(world: &World) -> String {
         hex(&world.host_store),
         hex(&world.controller_store)
     )
+}
+
+fn describe_sheet(sheet: &[u8; SHEET_BYTES]) -> String {
+    sheet
+        .chunks(8)
+        .map(|number| number.iter().rev().map(|byte| format!("{byte:02X}")).collect::<String>() + " ")
+        .collect()
 }
 
 fn describe_loan(world: &World, offer: &Offer) -> String {
@@ -338,5 +348,57 @@ impl Pair {
         world.record = record;
         self.seen.note(Function::Drop, want);
         Ok(want)
+    }
+
+    pub fn new_sheet(&mut self) -> Same<[u8; SHEET_BYTES]> {
+        let mut lent = Pair::lend_struct(&[STALE; SHEET_BYTES]);
+        library::new_sheet(&mut lent);
+        let mut wanted = [STALE; SHEET_BYTES];
+        boundary::new_sheet(&mut wanted);
+        verify((0, 0), &[("sheet", &lent, &wanted)], "new_sheet", String::new)?;
+        Ok(wanted)
+    }
+
+    pub fn enter(&mut self, sheet: &mut [u8; SHEET_BYTES], run: Finished) -> Same<u8> {
+        let mut lent = Pair::lend_struct(sheet);
+        let got = library::enter(&mut lent, run);
+        let mut after = *sheet;
+        let want = boundary::enter(&mut after, run);
+        verify((got.into(), want.into()), &[("sheet", &lent, &after)], "enter", || {
+            format!("  sheet {}\n  {run:?}", describe_sheet(sheet))
+        })?;
+        *sheet = after;
+        self.seen.note(Function::Enter, want);
+        Ok(want)
+    }
+
+    pub fn add(&mut self, sheet: &mut [u8; SHEET_BYTES], other: &[u8; SHEET_BYTES]) -> Same<u8> {
+        let mut lent = Pair::lend_struct(sheet);
+        let mut lent_other = Pair::lend_struct(other);
+        let got = library::add(&mut lent, &mut lent_other);
+        let mut after = *sheet;
+        let want = boundary::add(&mut after, other);
+        let parts: [(&str, &Lent, &[u8]); 2] = [("sheet", &lent, &after), ("other", &lent_other, other)];
+        verify((got.into(), want.into()), &parts, "add", || {
+            format!("  sheet {}\n  other {}", describe_sheet(sheet), describe_sheet(other))
+        })?;
+        *sheet = after;
+        self.seen.note(Function::Add, want);
+        Ok(want)
+    }
+
+    pub fn mean(&mut self, sheet: &[u8; SHEET_BYTES]) -> Same<(u8, [u8; MEAN_BYTES])> {
+        let mut lent = Pair::lend_struct(sheet);
+        let mut mean = Pair::lend_struct(&[STALE; MEAN_BYTES]);
+        let got = library::mean(&mut lent, &mut mean);
+        let mut mean_wanted = [STALE; MEAN_BYTES];
+        let want = boundary::mean(sheet, &mut mean_wanted);
+        let parts: [(&str, &Lent, &[u8]); 2] = [("sheet", &lent, sheet), ("mean", &mean, &mean_wanted)];
+        verify((got.into(), want.into()), &parts, "mean", || format!("  sheet {}", describe_sheet(sheet)))?;
+        self.seen.note(Function::Mean, want);
+        if want == SUCCESS {
+            self.seen.means[mean_wanted[0] as usize] += 1;
+        }
+        Ok((want, mean_wanted))
     }
 }

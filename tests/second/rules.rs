@@ -1,5 +1,5 @@
 //! What both sides of the bench share: answer numbers, capabilities, the rule of last blocks, page size, classes and statuses.
-//! Written from document 01, sections "Command words", "Header bytes", "Answer numbers", and document 02, Q-10, for the last of them.
+//! Written from document 01, sections "Command words", "Header bytes", "Answer numbers", and document 02, Q-10 and Q-12, for the last two of them.
 
 pub const SUCCESS: u8 = 0;
 pub const INVALID_FIELD: u8 = 1;
@@ -18,6 +18,7 @@ pub const BAD_SETUP: u8 = 13;
 pub const ALREADY_ENDED: u8 = 14;
 pub const DOES_NOT_FIT: u8 = 15;
 pub const OUT_OF_REACH: u8 = 19;
+pub const TOTAL_FULL: u8 = 20;
 
 pub const HOST_PAGE: u8 = 0x07;
 pub const CONTROLLER_PAGE: u8 = 0x08;

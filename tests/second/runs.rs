@@ -1,12 +1,13 @@
 //! Whole runs: a collection against a drive on which captures, drops, clearings by other hosts, creates by other hosts and refused commands
 //! happen in between. Every call goes to the pair; what documents 01 and 02 claim of a run is checked besides.
 
-use crate::boundary::{get_u32, get_u64, Setup, ENDED, NEXT_BYTES, REFUSED, SEND, STATE_BYTES};
+use crate::boundary::{self, get_u32, get_u64, Setup, ENDED, NEXT_BYTES, REFUSED, SEND, STATE_BYTES};
 use crate::generate::{self, asked_bytes, at, is_old};
 use crate::orders::small_setup;
 use crate::pair::{Difference, Offer, Pair, Same, World};
 use crate::random::Random;
 use crate::rules::*;
+use crate::sheet::{Finished, Sheet, ENDINGS};
 
 const FIRST_HEADER: u8 = 0;
 const CHUNK: u8 = 1;
@@ -63,6 +64,11 @@ struct Run {
 }
 
 pub fn runs(pair: &mut Pair, random: &mut Random) -> Same<()> {
+    run_to_its_end(pair, random).map(|_| ())
+}
+
+/// A run on a drive that others may use too, what is claimed of its ending, and what a month's sheet counts of it.
+fn run_to_its_end(pair: &mut Pair, random: &mut Random) -> Same<Finished> {
     let (world, setup) = drive_and_setup(random);
     let honest = random.chance(75);
     let busy = random.pick(&[0, 5, 20, 50, 90]);
@@ -74,7 +80,26 @@ pub fn runs(pair: &mut Pair, random: &mut Random) -> Same<()> {
             run.happenings(pair, random)?;
         }
     }
-    run.finish(pair)
+    run.finish(pair)?;
+    Ok(run.finished())
+}
+
+/// A month: every run that ended is entered, and the totals are those of its runs.
+pub fn months(pair: &mut Pair, random: &mut Random) -> Same<()> {
+    let mut sheet = pair.new_sheet()?;
+    let mut due = Sheet::default();
+    for _ in 0..random.pick(&[1, 5, 20]) {
+        let run = run_to_its_end(pair, random)?;
+        claim(pair.enter(&mut sheet, run)? == SUCCESS, "a run that ended is entered")?;
+        let ending = ENDINGS.iter().position(|ending| *ending == run.ending);
+        claim(ending.is_some(), "a run has one of eight endings")?;
+        ending.into_iter().for_each(|place| due.runs[place] += 1);
+        due.blocks += run.blocks as u128;
+        due.commands += run.commands as u128;
+        due.failed += run.failed as u128;
+    }
+    claim(boundary::read_sheet(&sheet) == Some(due), "a month's totals are those of its runs")?;
+    pair.mean(&sheet).map(|_| ())
 }
 
 /// Runs on an honest drive in which at most k captures and drops happen, and that have more than k attempts.
@@ -422,6 +447,18 @@ impl Run {
         self.check_ending()?;
         let next = pair.step(&mut self.state, 1, &[], &mut self.copy)?;
         claim(next[0] == REFUSED && next[1] == ALREADY_ENDED, "a step after the ending is 14")
+    }
+
+    /// What a month's sheet counts of an ended run: failed attempts are those before its last one, and with 9 that one too.
+    fn finished(&self) -> Finished {
+        let (ending, attempt) = (self.next[1], get_u32(&self.state, 16) as u64);
+        let wanted = get_u32(&self.state, 36 + 4 * self.setup.area as usize);
+        Finished {
+            ending,
+            blocks: if ending == SUCCESS { wanted as u64 } else { 0 },
+            commands: get_u64(&self.next, 24),
+            failed: if ending == ATTEMPTS_USED_UP { attempt } else { attempt - 1 },
+        }
     }
 
     /// What document 01 claims of every ending, and of those of an honest run.

@@ -1,7 +1,7 @@
 //! Which answers each function gave, and which faults bad headers had. A comparison that never sees an answer has not tried it.
 
 use crate::generate::EXTENDED;
-use crate::rules::{CONTROLLER_PAGE, HOST_PAGE, OUT_OF_REACH};
+use crate::rules::{CONTROLLER_PAGE, HOST_PAGE, TOTAL_FULL};
 
 #[derive(Clone, Copy)]
 pub enum Function {
@@ -19,9 +19,12 @@ pub enum Function {
     Command,
     Capture,
     Drop,
+    Enter,
+    Add,
+    Mean,
 }
 
-const FUNCTIONS: usize = 13;
+const FUNCTIONS: usize = 16;
 
 impl Function {
     /// A function of the host, which tells old runs apart by the capabilities.
@@ -38,10 +41,10 @@ impl Function {
 }
 
 /// Answers go up to this.
-const LAST_ANSWER: usize = OUT_OF_REACH as usize;
+const LAST_ANSWER: usize = TOTAL_FULL as usize;
 
-/// Each function with the answers that it can give: document 01's table and document 02's additions to it, and for the last two of
-/// `bumbazeel.h` their own numbers.
+/// Each function with the answers that it can give: document 01's table and document 02's additions to it, and for class and status
+/// their own numbers.
 const LISTED: [(&str, &[u8]); FUNCTIONS] = [
     ("class", &[0, 1, 2, 3]),
     ("status", &[0, 1, 2, 3]),
@@ -56,6 +59,9 @@ const LISTED: [(&str, &[u8]); FUNCTIONS] = [
     ("command", &[0, 1, 2, 3, 4, 5]),
     ("capture", &[0, 4, 5]),
     ("drop", &[0, 4]),
+    ("enter", &[0, 13, 20]),
+    ("add", &[0, 13, 20]),
+    ("mean", &[0, 13]),
 ];
 
 /// Where a bad header is met.
@@ -90,6 +96,8 @@ pub struct Seen {
     sent: [u64; FUNCTIONS],
     /// endings that acknowledged a newer capture unread
     pub newer: u64,
+    /// sheets that have no mean, and those that have one
+    pub means: [u64; 2],
 }
 
 impl Seen {
@@ -99,6 +107,7 @@ impl Seen {
             faults: [[[0; LAST_FAULT + 1]; PAGES.len()]; PLACES.len()],
             sent: [0; FUNCTIONS],
             newer: 0,
+            means: [0; 2],
         }
     }
 
@@ -132,6 +141,7 @@ impl Seen {
             }
             println!("{line}");
         }
+        println!("sheets seen: {} without a mean, {} with one", self.means[0], self.means[1]);
         println!("faults seen in bad headers, fields 1 to 8:");
         for (place, name) in PLACES.iter().enumerate() {
             for (index, page) in PAGES.iter().enumerate() {
@@ -157,6 +167,11 @@ impl Seen {
                 let never = (1..=LAST_FAULT)
                     .filter(|fault| can_be_met(place, *page, *fault) && self.faults[place][index][*fault] == 0);
                 missing.extend(never.map(|fault| format!("{page:02X}h at {name}: never field {fault}")));
+            }
+        }
+        for (times, what) in self.means.iter().zip(["had no mean", "had a mean"]) {
+            if *times == 0 {
+                missing.push(format!("no intact sheet {what}"));
             }
         }
         if self.newer == 0 {
