@@ -56,6 +56,18 @@ AT(bumbazeel_record, controller_last, 28);
 AT(bumbazeel_record, host_reason, 44);
 AT(bumbazeel_record, controller_reason, 172);
 
+AT(bumbazeel_sheet, mark, 0);
+AT(bumbazeel_sheet, runs, 8);
+AT(bumbazeel_sheet, blocks, 72);
+AT(bumbazeel_sheet, commands, 80);
+AT(bumbazeel_sheet, failed, 88);
+AT(bumbazeel_sheet, check, 96);
+
+AT(bumbazeel_mean, given, 0);
+AT(bumbazeel_mean, zero, 1);
+AT(bumbazeel_mean, whole, 8);
+AT(bumbazeel_mean, rest, 16);
+
 static int failures;
 
 static void expect_at(int line, const char *text, int holds) {
@@ -1301,6 +1313,284 @@ static void old_runs(void) {
     old_order();
 }
 
+/* ---- the month's sheet */
+
+static const uint64_t MOST_TOTAL = 18446744073709551615u;
+
+/* The endings that a run has, in the order of a sheet's runs. */
+static const uint8_t run_endings[8] = {0, 7, 8, 9, 10, 11, 12, 19};
+
+/* A sheet with no run entered, as bytes. */
+static const uint8_t no_runs[104] = {
+    0x42, 0x5a, 0x53, 0x48, 0x45, 0x45, 0x54, 0x31, /* the mark, "BZSHEET1" */
+    0x00, 0x00, 0x00, 0x00, 0x00, 0x00, 0x00, 0x00,
+    0x00, 0x00, 0x00, 0x00, 0x00, 0x00, 0x00, 0x00,
+    0x00, 0x00, 0x00, 0x00, 0x00, 0x00, 0x00, 0x00,
+    0x00, 0x00, 0x00, 0x00, 0x00, 0x00, 0x00, 0x00,
+    0x00, 0x00, 0x00, 0x00, 0x00, 0x00, 0x00, 0x00,
+    0x00, 0x00, 0x00, 0x00, 0x00, 0x00, 0x00, 0x00,
+    0x00, 0x00, 0x00, 0x00, 0x00, 0x00, 0x00, 0x00,
+    0x00, 0x00, 0x00, 0x00, 0x00, 0x00, 0x00, 0x00,
+    0x00, 0x00, 0x00, 0x00, 0x00, 0x00, 0x00, 0x00,
+    0x00, 0x00, 0x00, 0x00, 0x00, 0x00, 0x00, 0x00,
+    0x00, 0x00, 0x00, 0x00, 0x00, 0x00, 0x00, 0x00,
+    0x42, 0x5a, 0x53, 0x48, 0x45, 0x45, 0x54, 0x31, /* the check */
+};
+
+/* The sheet of these five runs, as bytes. */
+static const struct run {
+    uint8_t ending;
+    uint64_t blocks, commands, failed;
+} five_runs[5] = {{0, 7, 6, 0}, {9, 0, 21, 5}, {0, 0x0102030405060708, 258, 1}, {19, 0, 1, 0}, {0, 0, 2, 0}};
+static const uint8_t five_runs_bytes[104] = {
+    0x42, 0x5a, 0x53, 0x48, 0x45, 0x45, 0x54, 0x31, /* the mark */
+    0x03, 0x00, 0x00, 0x00, 0x00, 0x00, 0x00, 0x00, /* runs that ended with 0 */
+    0x00, 0x00, 0x00, 0x00, 0x00, 0x00, 0x00, 0x00, /* 7 */
+    0x00, 0x00, 0x00, 0x00, 0x00, 0x00, 0x00, 0x00, /* 8 */
+    0x01, 0x00, 0x00, 0x00, 0x00, 0x00, 0x00, 0x00, /* 9 */
+    0x00, 0x00, 0x00, 0x00, 0x00, 0x00, 0x00, 0x00, /* 10 */
+    0x00, 0x00, 0x00, 0x00, 0x00, 0x00, 0x00, 0x00, /* 11 */
+    0x00, 0x00, 0x00, 0x00, 0x00, 0x00, 0x00, 0x00, /* 12 */
+    0x01, 0x00, 0x00, 0x00, 0x00, 0x00, 0x00, 0x00, /* 19 */
+    0x0f, 0x07, 0x06, 0x05, 0x04, 0x03, 0x02, 0x01, /* blocks kept */
+    0x20, 0x01, 0x00, 0x00, 0x00, 0x00, 0x00, 0x00, /* commands sent */
+    0x06, 0x00, 0x00, 0x00, 0x00, 0x00, 0x00, 0x00, /* failed attempts */
+    0x7c, 0x62, 0x59, 0x4d, 0x49, 0x48, 0x56, 0x32, /* the check */
+};
+
+static struct run run_of(uint8_t ending, uint64_t blocks, uint64_t commands, uint64_t failed) {
+    struct run run = {ending, blocks, commands, failed};
+    return run;
+}
+
+static struct bumbazeel_sheet sheet_from(const uint8_t bytes[104]) {
+    struct bumbazeel_sheet sheet;
+    memcpy(&sheet, bytes, sizeof sheet);
+    return sheet;
+}
+
+/* Makes the check fit the other bytes. */
+static void mend(struct bumbazeel_sheet *sheet) {
+    const uint8_t *bytes = (const uint8_t *)sheet;
+    sheet->check = 0;
+    for (int i = 0; i < 96; i++)
+        sheet->check += (uint64_t)bytes[i] << i % 8 * 8;
+}
+
+/* A sheet with these runs of every ending and these other totals. */
+static struct bumbazeel_sheet totals(uint64_t runs, uint64_t blocks, uint64_t commands, uint64_t failed) {
+    struct bumbazeel_sheet sheet = sheet_from(no_runs);
+    for (int i = 0; i < 8; i++)
+        sheet.runs[i] = runs;
+    sheet.blocks = blocks;
+    sheet.commands = commands;
+    sheet.failed = failed;
+    mend(&sheet);
+    return sheet;
+}
+
+static int same_sheet(struct bumbazeel_sheet one, struct bumbazeel_sheet other) { return !memcmp(&one, &other, sizeof one); }
+
+/* Enters a run, which gets this answer. With 13 and 20 the sheet is as it was. */
+static int entered(struct bumbazeel_sheet *sheet, struct run run, uint8_t answer) {
+    const struct bumbazeel_sheet before = *sheet;
+    return bumbazeel_enter(sheet, run.ending, run.blocks, run.commands, run.failed) == answer && (!answer || same_sheet(*sheet, before));
+}
+
+/* Adds a sheet to another, which gets this answer, and stays. With 13 and 20 the other is as it was. */
+static int added(struct bumbazeel_sheet *sheet, struct bumbazeel_sheet other, uint8_t answer) {
+    const struct bumbazeel_sheet before = *sheet, lent = other;
+    return bumbazeel_add(sheet, &other) == answer && (!answer || same_sheet(*sheet, before)) && same_sheet(other, lent);
+}
+
+/* Asks for a sheet's mean, which gets this answer, and is whole and rest or, with `given` 0, zeros. The sheet stays. */
+static int has_mean(struct bumbazeel_sheet sheet, uint8_t answer, uint8_t given, uint64_t whole, uint64_t rest) {
+    const struct bumbazeel_sheet before = sheet;
+    struct bumbazeel_mean mean;
+    memset(&mean, 0xff, sizeof mean);
+    return bumbazeel_mean(&sheet, &mean) == answer && mean.given == given && all(mean.zero, sizeof mean.zero, 0) && mean.whole == whole &&
+           mean.rest == rest && same_sheet(sheet, before);
+}
+
+/* A damaged sheet gets 13 wherever it is lent. */
+static int is_damaged(struct bumbazeel_sheet sheet) {
+    struct bumbazeel_sheet intact = sheet_from(five_runs_bytes);
+    return entered(&sheet, five_runs[0], 13) && added(&sheet, intact, 13) && added(&intact, sheet, 13) && has_mean(sheet, 13, 0, 0, 0);
+}
+
+static int is_intact(struct bumbazeel_sheet sheet) {
+    struct bumbazeel_sheet none = sheet_from(no_runs);
+    return added(&none, sheet, 0) && same_sheet(none, sheet);
+}
+
+/* Every order of the five runs gives the same bytes, and so do two sheets that they are divided between. */
+static void sheet_bytes(void) {
+    struct bumbazeel_sheet sheet;
+    memset(&sheet, 0xff, sizeof sheet);
+    bumbazeel_new_sheet(&sheet);
+    expect(!memcmp(&sheet, no_runs, sizeof no_runs) && is_intact(sheet) && has_mean(sheet, 0, 0, 0, 0));
+    for (int order = 0; order < 3125; order++) {
+        int places = 0;
+        for (int i = 0, rest = order; i < 5; i++, rest /= 5)
+            places |= 1 << rest % 5;
+        if (places != 31)
+            continue; /* a run would be entered twice */
+        struct bumbazeel_sheet one = sheet_from(no_runs), other = one;
+        bumbazeel_new_sheet(&sheet);
+        for (int i = 0, rest = order; i < 5; i++, rest /= 5) {
+            expect(entered(&sheet, five_runs[rest % 5], 0));
+            expect(entered(i < order % 4 ? &one : &other, five_runs[rest % 5], 0));
+        }
+        expect(!memcmp(&sheet, five_runs_bytes, sizeof five_runs_bytes));
+        expect(added(&one, other, 0) && !memcmp(&one, five_runs_bytes, sizeof five_runs_bytes));
+    }
+    expect(sheet.runs[0] == 3 && sheet.runs[3] == 1 && sheet.runs[7] == 1 && sheet.blocks == 0x010203040506070f);
+    expect(sheet.commands == 288 && sheet.failed == 6 && has_mean(sheet, 0, 1, 24207953263460954u, 1));
+}
+
+/* Eight endings are entered, each at its place. Any other is 13, and so are blocks with any other than 0, also where a total is full. */
+static void sheet_endings(void) {
+    for (int ending = 0, place = 0; ending < 256; ending++) {
+        const int is_one = place < 8 && run_endings[place] == ending;
+        const struct run run = {(uint8_t)ending, 0, 4, 2}, with_blocks = {(uint8_t)ending, 9, 4, 2};
+        const struct run most = {(uint8_t)ending, MOST_TOTAL, MOST_TOTAL, MOST_TOTAL};
+        struct bumbazeel_sheet sheet = sheet_from(no_runs), want = sheet, full = totals(MOST_TOTAL, MOST_TOTAL, MOST_TOTAL, MOST_TOTAL);
+        expect(entered(&sheet, run, is_one ? 0 : 13));
+        if (is_one) {
+            want.runs[place++] = 1;
+            want.commands = 4;
+            want.failed = 2;
+            mend(&want);
+        }
+        expect(same_sheet(sheet, want));
+        expect(entered(&full, run, is_one ? 20 : 13) && entered(&full, most, ending ? 13 : 20));
+        expect(entered(&sheet, with_blocks, ending ? 13 : 0) && sheet.blocks == (ending ? 0u : 9u));
+    }
+}
+
+/* A total of 18,446,744,073,709,551,615 is taken, one more is 20, and nothing of the run is entered then. */
+static void sheet_limits(void) {
+    const uint64_t most = MOST_TOTAL;
+    for (int place = 0; place < 8; place++) {
+        const struct run run = {run_endings[place], 0, 0, 0};
+        struct bumbazeel_sheet sheet = totals(most, most, most, most);
+        sheet.runs[place] = most - 1;
+        mend(&sheet);
+        expect(entered(&sheet, run, 0) && same_sheet(sheet, totals(most, most, most, most)) && entered(&sheet, run, 20));
+        sheet = totals(1, 0, 0, 0);
+        sheet.runs[place] = most;
+        mend(&sheet);
+        expect(entered(&sheet, run, 20) && entered(&sheet, run_of(run_endings[(place + 1) % 8], 0, 0, 0), 0));
+    }
+    /* the numbers up to the limit, and one of them past it */
+    static const uint64_t numbers[] = {0, 1, 2, 0x100000000, 0x8000000000000000, 0xfffffffffffffffe, 0xffffffffffffffff};
+    for (size_t i = 0; i < sizeof numbers / sizeof *numbers; i++) {
+        const uint64_t n = numbers[i], room = most - n;
+        struct bumbazeel_sheet sheet = totals(1, n, n, n);
+        if (n) {
+            const struct run past[] = {{0, room + 1, room, room}, {0, room, room + 1, room}, {0, room, room, room + 1}, {0, room + 1, room + 1, room + 1},
+                                       {12, 0, room + 1, 0},      {12, 0, 0, room + 1}};
+            for (size_t j = 0; j < sizeof past / sizeof *past; j++)
+                expect(entered(&sheet, past[j], 20));
+            expect(entered(&sheet, run_of(12, room + 1, 0, 0), 13));
+        }
+        expect(entered(&sheet, run_of(0, room, room, room), 0));
+        struct bumbazeel_sheet want = totals(1, most, most, most);
+        want.runs[0] = 2;
+        mend(&want);
+        expect(same_sheet(sheet, want) && entered(&sheet, run_of(0, 0, 0, 0), 0));
+    }
+}
+
+/* Additions at the limit of each of the eleven totals. */
+static void sheet_additions(void) {
+    const uint64_t most = MOST_TOTAL, half = most / 2;
+    for (int total = 0; total < 11; total++) {
+        const struct bumbazeel_sheet low = totals(half, half, half, half), high = totals(half + 1, half + 1, half + 1, half + 1);
+        struct bumbazeel_sheet sheet = low, higher = high;
+        uint64_t number = half + 2;
+        memcpy((uint8_t *)&higher + 8 + 8 * total, &number, 8);
+        mend(&higher);
+        expect(added(&sheet, higher, 20) && added(&higher, low, 20));
+        expect(added(&sheet, high, 0) && same_sheet(sheet, totals(most, most, most, most)));
+        expect(added(&sheet, low, 20) && added(&sheet, sheet_from(no_runs), 0) && same_sheet(sheet, totals(most, most, most, most)));
+    }
+}
+
+/* Each bit flipped is damage. With the check mended the mark still is, and totals that no runs have are. */
+static void sheet_damage(void) {
+    struct bumbazeel_sheet sheet;
+    for (int bit = 0; bit < 832; bit++) {
+        sheet = sheet_from(five_runs_bytes);
+        ((uint8_t *)&sheet)[bit / 8] ^= (uint8_t)(1 << bit % 8);
+        expect(is_damaged(sheet));
+        mend(&sheet);
+        expect(bit < 64 ? is_damaged(sheet) : is_intact(sheet));
+    }
+    for (int runs = 0; runs < 256; runs++) /* a set of endings that have a run */
+        for (int numbers = 0; numbers < 8; numbers++) {
+            sheet = totals(0, numbers & 1 ? MOST_TOTAL : 0, numbers & 2 ? 1 : 0, numbers & 4 ? 1 : 0);
+            for (int place = 0; place < 8; place++)
+                sheet.runs[place] = runs >> place & 1;
+            mend(&sheet);
+            const int damaged = (!(runs & 1) && numbers & 1) || (!runs && numbers);
+            expect(damaged ? is_damaged(sheet) : is_intact(sheet));
+        }
+    memset(&sheet, 0, sizeof sheet);
+    expect(is_damaged(sheet));
+    sheet = sheet_from(five_runs_bytes); /* what keeps the sum is not seen */
+    sheet.commands += 5;
+    sheet.failed -= 5;
+    expect(is_intact(sheet));
+}
+
+/* The mean is divided once, and a good run of no blocks counts in it. */
+static void sheet_means(void) {
+    static const struct {
+        uint64_t blocks, good, whole, rest;
+    } rows[] = {
+        {0, 1, 0, 0},
+        {0, 0xffffffffffffffff, 0, 0},
+        {1, 1, 1, 0},
+        {1, 2, 0, 1},
+        {7, 2, 3, 1},
+        {10, 3, 3, 1},
+        {11, 3, 3, 2},
+        {12, 3, 4, 0},
+        {0xffffffffffffffff, 1, 0xffffffffffffffff, 0},
+        {0xffffffffffffffff, 2, 0x7fffffffffffffff, 1},
+        {0xffffffffffffffff, 10, 1844674407370955161, 5},
+        {0xffffffffffffffff, 0xffffffff, 0x100000001, 0},
+        {0xffffffffffffffff, 0x100000000, 0xffffffff, 0xffffffff},
+        {0xffffffffffffffff, 0x8000000000000000, 1, 0x7fffffffffffffff},
+        {0xffffffffffffffff, 0xfffffffffffffffe, 1, 1},
+        {0xffffffffffffffff, 0xffffffffffffffff, 1, 0},
+        {0xfffffffffffffffe, 0xffffffffffffffff, 0, 0xfffffffffffffffe},
+    };
+    struct bumbazeel_sheet sheet;
+    for (size_t i = 0; i < sizeof rows / sizeof *rows; i++) {
+        sheet = totals(5, rows[i].blocks, 6, 7);
+        sheet.runs[0] = rows[i].good;
+        mend(&sheet);
+        expect(has_mean(sheet, 0, 1, rows[i].whole, rows[i].rest));
+    }
+    sheet = totals(5, 0, 6, 7);
+    sheet.runs[0] = 0;
+    mend(&sheet);
+    expect(has_mean(sheet, 0, 0, 0, 0));
+    expect(entered(&sheet, run_of(0, 5, 3, 0), 0) && has_mean(sheet, 0, 1, 5, 0));
+    expect(entered(&sheet, run_of(0, 0, 2, 0), 0) && has_mean(sheet, 0, 1, 2, 1));
+}
+
+static void sheets(void) {
+    sheet_bytes();
+    sheet_endings();
+    sheet_limits();
+    sheet_additions();
+    sheet_damage();
+    sheet_means();
+}
+
 int main(void) {
     numbers();
     words();
@@ -1332,6 +1622,7 @@ int main(void) {
     refused_setups();
     refused_steps();
     old_runs();
+    sheets();
     if (failures)
         return 1;
     puts("boundary: ok");

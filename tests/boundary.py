@@ -31,6 +31,15 @@ class Record(Structure):
                 ("controller_reason", c_uint8 * 128)]
 
 
+class Sheet(Structure):
+    _fields_ = [("mark", c_uint8 * 8), ("runs", c_uint64 * 8), ("blocks", c_uint64), ("commands", c_uint64), ("failed", c_uint64),
+                ("check", c_uint64)]
+
+
+class Mean(Structure):
+    _fields_ = [("given", c_uint8), ("zero", c_uint8 * 7), ("whole", c_uint64), ("rest", c_uint64)]
+
+
 BYTES, WORDS = POINTER(c_uint8), c_uint32 * 5
 library = ctypes.CDLL(sys.argv[1])
 failures = 0
@@ -52,6 +61,10 @@ command = function("command", c_uint8, POINTER(Record), BYTES, c_size_t, BYTES, 
                    WORDS, BYTES, c_size_t, POINTER(c_uint8))
 capture = function("capture", c_uint8, POINTER(Record), BYTES, c_size_t, BYTES, c_size_t, c_uint32 * 4, BYTES, c_size_t, BYTES, c_size_t)
 drop = function("drop", c_uint8, POINTER(Record), BYTES, c_size_t, BYTES, c_size_t)
+new_sheet = function("new_sheet", None, POINTER(Sheet))
+enter = function("enter", c_uint8, POINTER(Sheet), c_uint8, c_uint64, c_uint64, c_uint64)
+add = function("add", c_uint8, POINTER(Sheet), POINTER(Sheet))
+mean = function("mean", c_uint8, POINTER(Sheet), POINTER(Mean))
 class_of = function("class", c_uint8, c_uint8)
 status_of = function("status", c_uint16, c_uint8)
 
@@ -63,9 +76,11 @@ def same(what, wanted, got):
         print(f"boundary.py: {what}: wanted {wanted}, got {got}")
 
 
-same("sizes", (160, 56, 32, 300), tuple(map(ctypes.sizeof, (Planned, State, Next, Record))))
+same("sizes", (160, 56, 32, 300, 104, 24), tuple(map(ctypes.sizeof, (Planned, State, Next, Record, Sheet, Mean))))
 same("places in what a plan gives", [0, 1, 2, 3, 4, 5, 6, 8, 12, 28, 156], [getattr(Planned, name).offset for name, _ in Planned._fields_])
 same("the place of an ending's field at fault", 3, Next.bad_field.offset)
+same("places in a sheet", [0, 8, 72, 80, 88, 96], [getattr(Sheet, name).offset for name, _ in Sheet._fields_])
+same("places in a mean", [0, 1, 8, 16], [getattr(Mean, name).offset for name, _ in Mean._fields_])
 classes = [class_of(page) for page in range(256)]
 same("classes", [42, 64, 64, 86], [classes.count(c) for c in range(4)])
 same("statuses", [0, 2, 0x109] + [0xFFFF] * 253, [status_of(answer) for answer in range(256)])
@@ -424,6 +439,106 @@ while then.kind == 0 and len(listed) < 10:
 same("the commands of an old run", [[cdw10, 0, 0, 0, 0] for cdw10 in (0x007F8008, 0x0FFF8008, 0x007F8008, 0x007F0008)], listed)
 same("its ending", (1, 0, 0, 4), (then.kind, then.answer, then.newer, then.count))
 same("its copy, and the page that was acknowledged", (area[:31 * BLOCK] + bytes(2 * BLOCK), 0), (bytes(copy), record.available))
+
+# ---- the month's sheet
+MARK, FULL, ENDINGS = b"BZSHEET1", 2 ** 64 - 1, (0, 7, 8, 9, 10, 11, 12, 19)
+FIVE_RUNS = ((0, 7, 6, 0), (9, 0, 21, 5), (0, 0x0102030405060708, 258, 1), (19, 0, 1, 0), (0, 0, 2, 0))
+FIVE_RUNS_BYTES = bytes.fromhex("425a534845455431 0300000000000000 0000000000000000 0000000000000000 0100000000000000 0000000000000000"
+                                "0000000000000000 0000000000000000 0100000000000000 0f07060504030201 2001000000000000 0600000000000000"
+                                "7c62594d49485632")
+
+
+def mended(content):
+    """A sheet's bytes with a check that fits the others: the twelve numbers before it, added."""
+    return content[:96] + (sum(int.from_bytes(content[at:at + 8], "little") for at in range(0, 96, 8)) & FULL).to_bytes(8, "little")
+
+
+def sheet_of(runs, blocks, commands, failed):
+    """The bytes of a sheet with these totals."""
+    return mended(MARK + b"".join(total.to_bytes(8, "little") for total in (*runs, blocks, commands, failed)))
+
+
+def entered(content, *runs):
+    """The answers to runs that are entered one after the other into a sheet of these bytes, and its bytes after them."""
+    sheet = Sheet.from_buffer_copy(content)
+    return [enter(byref(sheet), *run) for run in runs], bytes(sheet)
+
+
+def added(content, other):
+    """The answer to an addition, and the bytes of both sheets after it."""
+    sheet, lent = Sheet.from_buffer_copy(content), Sheet.from_buffer_copy(other)
+    return add(byref(sheet), byref(lent)), bytes(sheet), bytes(lent)
+
+
+def mean_of(content):
+    """The answer to a question for the mean, whether it is given, its two parts, and what else was written: nothing but zeros."""
+    sheet, told = Sheet.from_buffer_copy(content), Mean(0xEE, (c_uint8 * 7)(*[0xEE] * 7), FULL, FULL)
+    answer = mean(byref(sheet), byref(told))
+    same("a sheet after a question for its mean", content, bytes(sheet))
+    same("the zero bytes of a mean", bytes(7), bytes(told.zero))
+    return answer, told.given, told.whole, told.rest
+
+
+def is_damaged(content):
+    """Whether a sheet gets 13 wherever it is lent, and whether it gets 0 everywhere; bytes stay as they were with 13."""
+    answers = [entered(content, (0, 0, 0, 0)), added(content, FIVE_RUNS_BYTES)[:2], (added(FIVE_RUNS_BYTES, content)[0], content)]
+    given = [answers[0][0][0], answers[1][0], answers[2][0], mean_of(content)[0]]
+    if given == [13] * 4:
+        same("a damaged sheet's bytes", ([content] * 2, FIVE_RUNS_BYTES), ([answers[0][1], answers[1][1]], added(FIVE_RUNS_BYTES, content)[1]))
+        same("a damaged sheet's mean", (13, 0, 0, 0), mean_of(content))
+        return True
+    return False if given == [0] * 4 else given
+
+
+begun_sheet = Sheet.from_buffer_copy(b"\xee" * 104)
+new_sheet(byref(begun_sheet))
+NO_RUNS = bytes(begun_sheet)
+same("a sheet with no run entered", MARK + bytes(88) + MARK, NO_RUNS)
+same("its mean", (0, 0, 0, 0), mean_of(NO_RUNS))
+for order in itertools.permutations(FIVE_RUNS):
+    same(f"a sheet of {order}", ([0] * 5, FIVE_RUNS_BYTES), entered(NO_RUNS, *order))
+    parts = [entered(NO_RUNS, *part)[1] for part in (order[:2], order[2:])]
+    same(f"two sheets of {order}", (0, FIVE_RUNS_BYTES, parts[1]), added(*parts))
+same("the mean of five runs, three of them good", (0, 1, 24207953263460954, 1), mean_of(FIVE_RUNS_BYTES))
+every_total_full = sheet_of([FULL] * 8, FULL, FULL, FULL)
+for ending in range(256):
+    one = [int(ending == named) for named in ENDINGS]
+    due = ([0], sheet_of(one, 0, 4, 2)) if any(one) else ([13], NO_RUNS)
+    same(f"a run that ended with {ending}", due, entered(NO_RUNS, (ending, 0, 4, 2)))
+    same(f"blocks with ending {ending}", ([13], FIVE_RUNS_BYTES) if ending else ([0], entered(NO_RUNS, *FIVE_RUNS, (0, 1, 4, 2))[1]),
+         entered(FIVE_RUNS_BYTES, (ending, 1, 4, 2)))
+    same(f"ending {ending} on a full sheet", ([20 if any(one) else 13, 13 if ending else 20], every_total_full),
+         entered(every_total_full, (ending, 0, 0, 0), (ending, 1, 1, 1)))
+for place, ending in enumerate(ENDINGS):
+    before = sheet_of([FULL - (place == other) for other in range(8)], FULL, FULL, FULL)
+    same(f"the last run that ended with {ending}", ([0, 20], every_total_full), entered(before, (ending, 0, 0, 0), (ending, 0, 0, 0)))
+for number in (1, 2, 2 ** 32, 2 ** 63, FULL - 1, FULL):
+    before, room = sheet_of([1] * 8, number, number, number), FULL - number
+    past = [(0, *(room + (total == place) for total in range(3))) for place in range(3)] + [(7, 0, room + 1, 0), (7, 0, 0, room + 1)]
+    same(f"totals of {number} past the limit", ([20] * 5, before), entered(before, *past))
+    same(f"totals of {number} up to the limit", ([0, 0, 20], sheet_of([3] + [1] * 7, FULL, FULL, FULL)),
+         entered(before, (0, room, room, room), (0, 0, 0, 0), (0, 1, 0, 0)))
+    if not room:
+        continue
+    other = sheet_of([number] * 8, number, number, number)
+    same(f"sheets of {number} up to the limit", (0, every_total_full, other), added(sheet_of([room] * 8, room, room, room), other))
+    for total in range(11):
+        totals = [room + (total == place) for place in range(11)]
+        past = sheet_of(totals[:8], *totals[8:])
+        same(f"total {total} of sheets of {number} past the limit", [(20, past, other), (20, other, past)], [added(past, other), added(other, past)])
+for bit in range(832):
+    flipped = bytearray(FIVE_RUNS_BYTES)
+    flipped[bit // 8] ^= 1 << bit % 8
+    same(f"bit {bit} flipped, and then the check mended", (True, bit < 64), (is_damaged(bytes(flipped)), is_damaged(mended(bytes(flipped)))))
+for good, other, blocks, commands, failed in itertools.product((0, 1), (0, 1), (0, 1), (0, 1), (0, 1)):
+    for place in range(1, 8):
+        runs = [good] + [other * (place == at) for at in range(1, 8)]
+        same(f"runs {runs} with {blocks} blocks, {commands} commands and {failed} failed attempts",
+             bool((blocks and not good) or ((commands or failed) and not good and not other)), is_damaged(sheet_of(runs, blocks, commands, failed)))
+same("no bytes of a sheet", True, is_damaged(bytes(104)))
+for blocks, good in itertools.product((0, 1, 7, 10, 2 ** 32, 2 ** 63, FULL - 1, FULL), (1, 2, 3, 10, 2 ** 32 - 1, 2 ** 32, 2 ** 63, FULL - 1, FULL)):
+    same(f"the mean of {blocks} blocks and {good} good runs", (0, 1, blocks // good, blocks % good), mean_of(sheet_of([good] + [3] * 7, blocks, 1, 1)))
+same("a mean of no good run", (0, 0, 0, 0), mean_of(sheet_of([0] + [3] * 7, 0, 9, 9)))
 if not failures:
     print("boundary: ok")
 sys.exit(failures > 0)
