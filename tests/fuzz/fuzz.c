@@ -1,6 +1,6 @@
 /* Calls every function of the boundary as an input's bytes say, and holds each call to the header file.
  *
- * One drive (record and two stores) and one collection (state and copy) live through an input. Whatever is lent stands in a slot: pages
+ * One drive (record and two stores), one collection (state and copy) and one month's sheet live through an input. Whatever is lent stands in a slot: pages
  * between two that nobody may touch, at their front or rear edge as the input says, and a margin at the other side of it. Each slot has
  * an image of what it must hold, margin included. A call's rule brings the images up to date, and then every slot is compared with its
  * image, so a byte that changed where none may change is found.
@@ -21,7 +21,8 @@
 enum { BLOCK = BUMBAZEEL_BLOCK, REASON_BYTES = BUMBAZEEL_REASON, FEW_BLOCKS = 16, MOST_BLOCKS = 35, MOST = MOST_BLOCKS * BLOCK, MOST_CALLS = 64 };
 enum { PAGE = 4096, MARGIN = 64, ROOM = MOST + PAGE }; /* of a slot */
 enum { HEADER_07 = BUMBAZEEL_HOST_PAGE, HEADER_08 = BUMBAZEEL_CONTROLLER_PAGE, CREATE_BIT = 1 << 8, RAE_BIT = 1 << 15 };
-static const uint64_t MOST_ATTEMPT_COMMANDS = 1048577;
+enum { TOTALS = 11, RUNS = 8, MARK_BYTES = 8, CHECK_PLACE = 96 }; /* of a sheet */
+static const uint64_t MOST_ATTEMPT_COMMANDS = 1048577, MOST_TOTAL = 18446744073709551615u;
 
 static void broken(const char *test, int line) {
     fprintf(stderr, "fuzz.c:%d: does not hold: %s\n", line, test);
@@ -31,10 +32,11 @@ static void broken(const char *test, int line) {
 
 /* ---- what was reached */
 
-/* A plan, a setup and a step are told apart by extended data: without it they are an old run's. The last three are the fields that a plan, a first
- * header and a later header had at fault. */
+/* A plan, a setup and a step are told apart by extended data: without it they are an old run's. The last four are whether an intact sheet had a mean,
+ * and the fields that a plan, a first header and a later header had at fault. */
 enum function {
-    PLAN, OLD_PLAN, BUILD, SETUP, OLD_SETUP, STEP, OLD_STEP, FRESH, COMMAND, CAPTURE, DROP, NUMBERS, PLAN_FIELD, FIRST_FIELD, LATER_FIELD, FUNCTIONS
+    PLAN, OLD_PLAN, BUILD, SETUP, OLD_SETUP, STEP, OLD_STEP, FRESH, COMMAND, CAPTURE, DROP, ENTER, ADD, MEAN_ASKED, NUMBERS, MEAN_GIVEN, PLAN_FIELD,
+    FIRST_FIELD, LATER_FIELD, FUNCTIONS
 };
 enum { VARIANTS = 8, ANSWERS = 32, SENDS = 16 }; /* a step that goes on counts as answer 16 */
 __attribute__((section("__libfuzzer_extra_counters"))) static uint8_t reached[FUNCTIONS][VARIANTS][ANSWERS];
@@ -97,7 +99,7 @@ static uint32_t chunk_for(uint8_t caps) {
 
 /* ---- slots */
 
-enum which { RECORD, HOST, CONTROLLER, LAST, CANDIDATE, REASON, WORDS, BUFFER, CLASS, STATE, NEXT, DATA, COPY, PLANNED, SLOTS };
+enum which { RECORD, HOST, CONTROLLER, LAST, CANDIDATE, REASON, WORDS, BUFFER, CLASS, STATE, NEXT, DATA, COPY, PLANNED, SHEET, OTHER, MEAN, SLOTS };
 
 static struct slot {
     uint8_t *pages, *lent;
@@ -159,6 +161,9 @@ static bool zeros(const void *bytes, size_t count) {
 #define THE_STATE AS(struct bumbazeel_state, STATE)
 #define THE_NEXT AS(struct bumbazeel_next, NEXT)
 #define THE_PLANNED AS(struct bumbazeel_planned, PLANNED)
+#define THE_SHEET AS(struct bumbazeel_sheet, SHEET)
+#define THE_OTHER AS(struct bumbazeel_sheet, OTHER)
+#define THE_MEAN AS(struct bumbazeel_mean, MEAN)
 
 static uint32_t little_endian(const uint8_t *at, int bytes) { return bytes ? at[0] | little_endian(at + 1, bytes - 1) << 8 : 0; }
 
@@ -650,6 +655,176 @@ static void drop(void) {
     reach(DROP, empty, answer);
 }
 
+/* ---- the month's sheet */
+
+/* The number of eight bytes, the lowest first. */
+static uint64_t number_at(const uint8_t *bytes) {
+    uint64_t number = 0;
+    for (int i = 7; i >= 0; i--)
+        number = number << 8 | bytes[i];
+    return number;
+}
+
+static void put_number(uint8_t *bytes, uint64_t number) {
+    for (int i = 0; i < 8; i++)
+        bytes[i] = (uint8_t)(number >> 8 * i);
+}
+
+/* The check that is due: every byte before it, at its place in its number. */
+static uint64_t check_due(const uint8_t *sheet) {
+    uint64_t sum = 0;
+    for (int i = 0; i < CHECK_PLACE; i++)
+        sum += (uint64_t)sheet[i] << i % 8 * 8;
+    return sum;
+}
+
+static const uint8_t *total_of(const uint8_t *sheet, int total) { return sheet + MARK_BYTES + 8 * total; }
+
+/* Whether a sheet's bytes are none that are damaged. */
+static bool sheet_is_intact(const uint8_t *sheet) {
+    const bool no_run = zeros(total_of(sheet, 0), 8 * RUNS), no_good_run = zeros(total_of(sheet, 0), 8);
+    return !memcmp(sheet, "BZSHEET1", MARK_BYTES) && number_at(sheet + CHECK_PLACE) == check_due(sheet) &&
+           (!no_good_run || zeros(total_of(sheet, RUNS), 8)) && (!no_run || zeros(total_of(sheet, RUNS + 1), 16));
+}
+
+/* Adds these numbers to the totals of an intact sheet: 20, and nothing is changed, if one would pass the limit. */
+static uint8_t add_all(uint8_t *sheet, const uint64_t numbers[TOTALS]) {
+    for (int i = 0; i < TOTALS; i++)
+        if (numbers[i] > MOST_TOTAL - number_at(total_of(sheet, i)))
+            return BUMBAZEEL_TOTAL_FULL;
+    for (int i = 0; i < TOTALS; i++)
+        put_number(sheet + MARK_BYTES + 8 * i, number_at(total_of(sheet, i)) + numbers[i]);
+    put_number(sheet + CHECK_PLACE, check_due(sheet));
+    return BUMBAZEEL_SUCCESS;
+}
+
+/* A number of a run or a sheet: mostly a small one, or one as far below the limit, so that two fill a total or pass it. */
+static uint64_t total(void) {
+    const uint8_t first = byte();
+    if (first < 0x80)
+        return first % 8;
+    if (first < 0xC0)
+        return MOST_TOTAL - first % 8;
+    if (first < 0xE0)
+        return ((uint64_t)1 << 2 * (first % 32)) + first / 2 % 2;
+    uint64_t any = 0;
+    for (int i = 0; i < 8; i++)
+        any = any << 8 | byte();
+    return any;
+}
+
+static void begin_sheet(void) {
+    static const uint8_t none[CHECK_PLACE - MARK_BYTES];
+    bumbazeel_new_sheet(lend(SHEET, sizeof(struct bumbazeel_sheet), 0xEE));
+    const uint8_t *sheet = slots[SHEET].lent;
+    must(!memcmp(sheet, "BZSHEET1", MARK_BYTES) && !memcmp(sheet + MARK_BYTES, none, sizeof none) && !memcmp(sheet + CHECK_PLACE, "BZSHEET1", 8));
+    accept_all(SHEET);
+    slots_are_as_they_must();
+}
+
+/* A sheet as the input says: totals by the bits of two bytes, then whether mark and check are right. */
+static void make_sheet(enum which which) {
+    uint8_t *sheet = lend(which, sizeof(struct bumbazeel_sheet), 0);
+    memcpy(sheet, "BZSHEET1", MARK_BYTES);
+    unsigned shape = byte();
+    shape |= (unsigned)byte() << 8;
+    for (int i = 0; i < TOTALS; i++)
+        if (shape >> i & 1)
+            put_number(sheet + MARK_BYTES + 8 * i, total());
+    if (shape >> 12 == 0xF)
+        sheet[byte() % MARK_BYTES] ^= byte();
+    put_number(sheet + CHECK_PLACE, check_due(sheet));
+    if (shape >> 12 == 0xE)
+        sheet[byte() % sizeof(struct bumbazeel_sheet)] ^= byte();
+    settle(which);
+}
+
+static void fill_sheet(void) { make_sheet(SHEET); }
+
+/* Changes a byte. The check may be mended after it. */
+static void damage_sheet(void) {
+    uint8_t *sheet = slots[SHEET].lent;
+    const uint8_t at = byte();
+    sheet[at % sizeof(struct bumbazeel_sheet)] = byte();
+    if (at & 0x80)
+        put_number(sheet + CHECK_PLACE, check_due(sheet));
+    settle(SHEET);
+}
+
+/* The place among a sheet's runs of those with an ending, or RUNS if no run has it. */
+static int place_of(uint8_t ending) {
+    if (ending >= BUMBAZEEL_BAD_HEADER && ending <= BUMBAZEEL_BROKE_ITS_WORD)
+        return 1 + ending - BUMBAZEEL_BAD_HEADER;
+    return ending == BUMBAZEEL_SUCCESS ? 0 : ending == BUMBAZEEL_OUT_OF_REACH ? RUNS - 1 : RUNS;
+}
+
+/* Enters a run. It is as if the sheet of this one run were added. */
+static uint8_t enter(uint8_t ending, uint64_t blocks, uint64_t commands, uint64_t failed) {
+    const struct bumbazeel_sheet before = *THE_SHEET;
+    const int place = place_of(ending);
+    uint64_t numbers[TOTALS] = {0};
+    uint8_t due = BUMBAZEEL_BAD_SETUP;
+    if (sheet_is_intact(slots[SHEET].lent) && place < RUNS && (!blocks || ending == BUMBAZEEL_SUCCESS)) {
+        numbers[place] = 1;
+        numbers[RUNS] = blocks;
+        numbers[RUNS + 1] = commands;
+        numbers[RUNS + 2] = failed;
+        due = add_all(image(SHEET), numbers);
+    }
+    const uint8_t answer = bumbazeel_enter(THE_SHEET, ending, blocks, commands, failed);
+    must(answer == due);
+    slots_are_as_they_must();
+    reach(ENTER, (unsigned)place, answer);
+    if (answer != BUMBAZEEL_BAD_SETUP) {
+        struct bumbazeel_sheet one, sum = before;
+        bumbazeel_new_sheet(&one);
+        must(!bumbazeel_enter(&one, ending, blocks, commands, failed) && bumbazeel_add(&sum, &one) == answer && !memcmp(&sum, THE_SHEET, sizeof sum));
+    }
+    return answer;
+}
+
+static void enter_anything(void) {
+    static const uint8_t endings[] = {0, 7, 8, 9, 10, 11, 12, 19, 0, 0, 0, 0, 6, 13, 20};
+    const uint8_t what = byte(), ending = what < 0xF0 ? endings[what % sizeof endings] : byte();
+    const uint64_t blocks = !ending || what & 0x80 ? total() : 0;
+    const uint64_t commands = total();
+    const uint64_t failed = total();
+    enter(ending, blocks, commands, failed);
+}
+
+/* Adds another sheet. Either way round the answer and the sums are the same. */
+static void add_sheets(void) {
+    make_sheet(OTHER);
+    const struct bumbazeel_sheet before = *THE_SHEET;
+    struct bumbazeel_sheet sum = *THE_OTHER;
+    const bool intact = sheet_is_intact(slots[SHEET].lent), other_intact = sheet_is_intact(slots[OTHER].lent);
+    uint64_t numbers[TOTALS];
+    for (int i = 0; i < TOTALS; i++)
+        numbers[i] = number_at(total_of(slots[OTHER].lent, i));
+    const uint8_t due = intact && other_intact ? add_all(image(SHEET), numbers) : BUMBAZEEL_BAD_SETUP;
+    const uint8_t answer = bumbazeel_add(THE_SHEET, THE_OTHER);
+    must(answer == due);
+    slots_are_as_they_must();
+    reach(ADD, intact + 2u * other_intact, answer);
+    must(bumbazeel_add(&sum, &before) == answer && !memcmp(&sum, answer ? THE_OTHER : THE_SHEET, sizeof sum));
+}
+
+static void ask_mean(void) {
+    const uint8_t *sheet = slots[SHEET].lent;
+    const uint64_t good = number_at(total_of(sheet, 0)), blocks = number_at(total_of(sheet, RUNS));
+    const bool intact = sheet_is_intact(sheet), given = intact && good;
+    struct bumbazeel_mean *mean = lend(MEAN, sizeof *mean, 0xEE);
+    const uint8_t answer = bumbazeel_mean(THE_SHEET, mean);
+    must(answer == (intact ? BUMBAZEEL_SUCCESS : BUMBAZEEL_BAD_SETUP));
+    must(mean->given == given && zeros(mean->zero, sizeof mean->zero));
+    must(mean->whole == (given ? blocks / good : 0) && mean->rest == (given ? blocks % good : 0));
+    accept_all(MEAN);
+    slots_are_as_they_must();
+    reach(MEAN_ASKED, 0, answer);
+    if (intact)
+        reach(MEAN_GIVEN, 0, given);
+}
+
 /* ---- the collection */
 
 static bool untouched;      /* the state comes from setup, and only steps have changed it */
@@ -917,6 +1092,17 @@ static void step_with_anything(void) {
     step(what < 0xB0 || what & 1);
 }
 
+/* Enters the collection that has ended, if only steps have changed its state: it has one of the endings that a sheet counts. */
+static void enter_the_run(void) {
+    const struct bumbazeel_state *s = THE_STATE;
+    const uint8_t ending = THE_NEXT->answer;
+    if (!untouched || THE_NEXT->kind != BUMBAZEEL_ENDED)
+        return;
+    const bool intact = sheet_is_intact(slots[SHEET].lent);
+    const uint8_t answer = enter(ending, ending ? 0 : s->last[s->area - 1], THE_NEXT->count, s->attempt - (ending != BUMBAZEEL_ATTEMPTS_USED_UP));
+    must((answer == BUMBAZEEL_BAD_SETUP) == !intact);
+}
+
 /* A collection from the drive, with whatever else happens between its commands. */
 static void run(void) {
     setup();
@@ -934,6 +1120,7 @@ static void run(void) {
         else
             step_with_the_drive();
     }
+    enter_the_run();
 }
 
 static void damage_state(void) {
@@ -950,6 +1137,7 @@ static void change_copy(void) { lend(COPY, some_blocks(), 0xCC); }
 static void (*const calls[])(void) = {
     run,   command_of_anything, capture, step_with_anything, fresh,         fill_record,  setup,       plan_of_anything,
     build, numbers,             damage_record,               change_stores, damage_state, change_copy,  drop,
+    begin_sheet, fill_sheet, damage_sheet, enter_anything, add_sheets, ask_mean,
 };
 
 static void begin(void) {
@@ -964,6 +1152,7 @@ static void begin(void) {
     lend(STATE, sizeof(struct bumbazeel_state), 0);
     lend(NEXT, sizeof(struct bumbazeel_next), 0);
     lend(LAST, 4 * sizeof(uint32_t), 0);
+    begin_sheet();
     change_stores();
     change_copy();
     fresh();
@@ -983,7 +1172,8 @@ int LLVMFuzzerTestOneInput(const uint8_t *bytes, size_t count) {
 static void tell_reached(void) {
     static const char *const names[FUNCTIONS] = {
         "plan",  "old plan", "words",   "setup", "old setup", "step",            "old step",
-        "fresh", "command",  "capture", "drop",  "class",     "field of a plan", "field of a first header", "field of a later header",
+        "fresh", "command",  "capture", "drop",  "enter",     "add",             "mean",
+        "class", "mean given", "field of a plan", "field of a first header", "field of a later header",
     };
     for (int f = 0; f < FUNCTIONS; f++) {
         printf("%s:", names[f]);
