@@ -149,3 +149,12 @@ void header_byte_of(const char *option, const char *text, uint64_t *command, uin
     *byte = (uint16_t)at;
     *value = (uint32_t)is;
 }
+
+void run_of(const char *option, const char *text, uint64_t numbers[4]) {
+    const char *at = text;
+    for (int i = 0; i < 4; i++)
+        at = read_up_to(at, i < 3 ? ',' : '\0', &numbers[i]);
+    if (!at || numbers[0] > UINT8_MAX)
+        die("%s '%s' is not ENDING,BLOCKS,COMMANDS,FAILED with ENDING at most %d and each of the others at most %llu", option, text, UINT8_MAX,
+            (unsigned long long)UINT64_MAX);
+}

@@ -48,4 +48,7 @@ void areas_of(const char *option, const char *text, uint32_t areas[4]);
 /* N:BYTE=VALUE, a command's number and a byte of a header. */
 void header_byte_of(const char *option, const char *text, uint64_t *command, uint16_t *byte, uint32_t *value);
 
+/* ENDING,BLOCKS,COMMANDS,FAILED, the numbers of a finished run. */
+void run_of(const char *option, const char *text, uint64_t numbers[4]);
+
 #endif

@@ -11,6 +11,7 @@
 #include "report.h"
 #include "run.h"
 #include "say.h"
+#include "sheet_file.h"
 #include "stop.h"
 
 #include <stdio.h>
@@ -80,6 +81,32 @@ static void tell(void) {
         hint();
 }
 
+/* Where the copy goes. It is not the sheet: a name that is given is known before the drive is. */
+static const char *output_name(void) {
+    const char *name = options.output ? options.output : own_name(options.output_dir);
+    if (options.sheet && !options.output)
+        sheet_keep_from(name);
+    return name;
+}
+
+static void prepare_sheet(void) {
+    if (!options.sheet)
+        return;
+    sheet_open(options.sheet, options.quiet);
+    if (options.output)
+        sheet_keep_from(options.output);
+}
+
+/* Enters the run, which has an ending. */
+static void enter(void) {
+    struct finished run = {.ending = report.ending, .commands = report.commands, .failed = report.failed};
+    if (!options.sheet)
+        return;
+    if (report.ending == BUMBAZEEL_SUCCESS)
+        run.blocks = report.bytes / BLOCK - 1; /* behind the header */
+    sheet_enter(&run);
+}
+
 /* Collects from the device; NULL is the embedded drive. Answers the exit status. */
 static int collect_from(const char *device) {
     struct wish wish = options.wish;
@@ -89,6 +116,7 @@ static int collect_from(const char *device) {
     report.keeps = wish.acknowledge == NEVER;
     if (options.json)
         say_at_death(report_json);
+    prepare_sheet();
     struct drive *drive = device ? device_open(device, options.timeout) : embedded_open(wish.page, &options.drive);
     report.drive = drive;
     judge_blocks(drive);
@@ -96,12 +124,13 @@ static int collect_from(const char *device) {
         device_ask();
     complete(&wish, drive);
     report.area = wish.area;
-    output_open(options.output ? options.output : own_name(options.output_dir), options.no_clobber || options.output_dir);
+    output_open(output_name(), options.no_clobber || options.output_dir);
     run(drive, &wish);
     if (!report.ended) {
         stop_here();
         die("%s: %s: %s", drive_name(drive), drive->trouble, report_standing());
     }
+    enter();
     tell();
     return report.ending;
 }

@@ -30,6 +30,8 @@ static const char help[] = "usage: bumbazeel collect [OPTIONS] [DEVICE] OUTPUT\n
                            "  -o, --output OUTPUT   the file, if it is not the last word\n"
                            "  --output-dir FOLDER   a new file in FOLDER, named by serial, page and time\n"
                            "  --no-clobber          replace no file\n"
+                           "  --sheet FILE          enter the run, when it has ended, into the month's sheet\n"
+                           "                        FILE, which bumbazeel sheet FILE prints\n"
                            "  --blocks N            blocks a command, 1 to 8192 (128); refused of a drive\n"
                            "                        without extended data, which one command reads\n"
                            "  --attempts N          attempts if the page changes meanwhile, 1 to 65535 (5)\n"
@@ -95,6 +97,8 @@ static bool read_manner(struct collect_options *o, struct arguments *a) {
         o->output = value;
     else if (argument_flag(a, "--no-clobber"))
         o->no_clobber = true;
+    else if (argument_value(a, "--sheet", &value))
+        o->sheet = value;
     else if (argument_flag(a, "--list|--verbose|-v"))
         o->wish.list = true;
     else if (argument_flag(a, "--json"))

@@ -16,6 +16,7 @@ struct collect_options {
     struct operands devices;  /* none: the embedded drive */
     const char *output;       /* NULL: a name of its own in the folder output_dir */
     const char *output_dir;
+    const char *sheet;         /* NULL: the run is entered nowhere */
     const char *embedded_only; /* an option that has no meaning with a device */
 };
 

@@ -6,6 +6,7 @@ int collect_command(char **words);
 int check_command(char **words);
 int list_command(char **words);
 int serve_command(char **words);
+int sheet_command(char **words);
 int status_command(char **words);
 int words_command(char **words);
 

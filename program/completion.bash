@@ -2,7 +2,7 @@
 _bumbazeel() {
     local word=${COMP_WORDS[COMP_CWORD]} before=${COMP_WORDS[COMP_CWORD - 1]} command=${COMP_WORDS[1]:-} options
     if [ "$COMP_CWORD" = 1 ] || { [ "$command" = help ] && [ "$COMP_CWORD" = 2 ]; }; then
-        mapfile -t COMPREPLY < <(compgen -W 'collect status list check words serve help --help --version' -- "$word")
+        mapfile -t COMPREPLY < <(compgen -W 'collect status list check sheet words serve help --help --version' -- "$word")
         return
     fi
     case $before in

@@ -1,4 +1,4 @@
-/* bumbazeel: collects NVMe telemetry pages, checks saved ones, builds command words, serves a drive to rehearse with. All that matters is decided by the proved library. */
+/* bumbazeel: collects NVMe telemetry pages, checks saved ones, keeps the month's sheet, builds command words, serves a drive to rehearse with. All that matters is decided by the proved library. */
 #include "commands.h"
 #include "json.h"
 #include "say.h"
@@ -17,6 +17,7 @@ static const char help[] = "usage: bumbazeel COMMAND [OPTIONS]\n"
                            "  status    tell whether drives have something to tell on page 08h\n"
                            "  list      list the NVMe drives at hand\n"
                            "  check     show the header of a saved page, and whether the file's length fits\n"
+                           "  sheet     print the month's sheet: exact totals over the runs entered in it\n"
                            "  words     print the words of a Get Log Page\n"
                            "  serve     serve the embedded drive to hosts, over NVMe/TCP\n"
                            "  help      show a command's options: bumbazeel help COMMAND\n"
@@ -33,7 +34,7 @@ static const struct {
     const char *name;
     int (*run)(char **words);
 } commands[] = {{"collect", collect_command}, {"status", status_command}, {"list", list_command},
-                {"check", check_command},     {"words", words_command},   {"serve", serve_command}};
+                {"check", check_command},     {"sheet", sheet_command},   {"words", words_command}, {"serve", serve_command}};
 
 /* A closed standard stream would lend its number to the next file that is opened, and what is printed would go there. The root directory
  * is always there, and takes no byte. */
@@ -61,7 +62,7 @@ static int run_command(const char *name, char **words) {
     for (size_t i = 0; i < sizeof commands / sizeof *commands; i++)
         if (strcmp(name, commands[i].name) == 0)
             return commands[i].run(words);
-    die("unknown command '%s': give collect, status, list, check, words, serve or help (bumbazeel --help)", name);
+    die("unknown command '%s': give collect, status, list, check, sheet, words, serve or help (bumbazeel --help)", name);
 }
 
 int main(int argc, char **argv) {
@@ -70,7 +71,7 @@ int main(int argc, char **argv) {
     if (asks_for_json(argv))
         say_at_death(json_error);
     if (argc < 2)
-        die("no command: give collect, status, list, check, words, serve or help (bumbazeel --help)");
+        die("no command: give collect, status, list, check, sheet, words, serve or help (bumbazeel --help)");
     if (argc == 2 && (is(argv[1], "--help", "-h") || strcmp(argv[1], "help") == 0))
         print_help(help);
     if (argc == 2 && is(argv[1], "--version", "-V"))

@@ -1,8 +1,9 @@
 /* A temporary file in the directory of the one that is wanted, then a rename: no reader ever meets half a file, and an older file is only
  * replaced by a whole one. The temporary is removed at the program's end, whichever way that comes. */
-#define _GNU_SOURCE /* syncfs, renameat2 */
+#define _GNU_SOURCE /* renameat2 */
 #include "output.h"
 
+#include "place.h"
 #include "say.h"
 #include "stop.h"
 
@@ -17,8 +18,8 @@
 #include <time.h>
 #include <unistd.h>
 
-enum { PIECE = 1 << 20, PERMISSIONS = 0777, WRITERS = 0222 }; /* between two pieces a stop is looked for */
-enum { MOMENT = 20 };                                         /* milliseconds: a stop is looked for as often while somebody is waited for */
+enum { PIECE = 1 << 20 }; /* between two pieces a stop is looked for */
+enum { MOMENT = 20 };     /* milliseconds: a stop is looked for as often while somebody is waited for */
 
 static struct {
     const char *name, *base; /* as it was given, and its last part */
@@ -39,28 +40,7 @@ static void remove_temporary(void) {
     output.temporary[0] = '\0';
 }
 
-/* Opens the directory of the name, and leaves the name's last part in output.base. */
-static void open_directory(const char *name) {
-    const char *slash = strrchr(name, '/');
-    char *path = slash ? strndup(name, slash == name ? 1 : (size_t)(slash - name)) : strdup(".");
-    output.base = slash ? slash + 1 : name;
-    if (!path)
-        die("no memory for a file name");
-    output.directory = open(path, O_RDONLY | O_DIRECTORY | O_CLOEXEC);
-    if (output.directory < 0)
-        die("%s: cannot open the directory for OUTPUT: %s", path, strerror(errno));
-    free(path);
-}
-
-/* The mode that a file made by any other program would have. */
-static mode_t usual_mode(void) {
-    mode_t mask = umask(0);
-    umask(mask);
-    return 0666 & ~mask;
-}
-
-/* What stands there may only be a file that a rename can replace: a device, a directory or a link is no copy of anything, and a file that
- * nobody may write was protected by somebody. The new file takes the older one's mode. */
+/* What stands there may only be a file that a rename can replace, and that nobody has protected. The new file takes the older one's mode. */
 static void look_at_older(void) {
     struct stat older;
     output.mode = usual_mode();
@@ -73,12 +53,9 @@ static void look_at_older(void) {
         die("%s: is there already, and --no-clobber replaces nothing", output.name);
     if (S_ISCHR(older.st_mode) || S_ISBLK(older.st_mode))
         die("%s: is a device: give a file's name for OUTPUT after it, or - for standard output", output.name);
-    if (!S_ISREG(older.st_mode))
-        die("%s: is %s: give a file's name for OUTPUT, or - for standard output", output.name,
-            S_ISDIR(older.st_mode)   ? "a directory"
-            : S_ISLNK(older.st_mode) ? "a symbolic link"
-                                     : "no regular file");
-    if (!(older.st_mode & WRITERS))
+    if (no_file(&older))
+        die("%s: is %s: give a file's name for OUTPUT, or - for standard output", output.name, no_file(&older));
+    if (write_protected(&older))
         die("%s: is there already and is write-protected: give another name for OUTPUT", output.name);
     output.mode = older.st_mode & PERMISSIONS;
 }
@@ -107,7 +84,7 @@ void output_open(const char *name, bool fresh) {
         output.file = STDOUT_FILENO;
         return;
     }
-    open_directory(name);
+    output.directory = place_open(name, "OUTPUT", &output.base);
     if (!*output.base)
         die("'%s': give a file's name for OUTPUT, or - for standard output", name);
     look_at_older();
@@ -202,10 +179,4 @@ void output_save(const uint8_t *bytes, size_t count) {
     }
 }
 
-int output_sync_name(void) {
-    if (output.standard || fsync(output.directory) == 0)
-        return 0;
-    if (errno == EINVAL && syncfs(output.directory) == 0) /* a file system that syncs no directories */
-        return 0;
-    return errno;
-}
+int output_sync_name(void) { return output.standard ? 0 : place_sync(output.directory); }

@@ -18,6 +18,8 @@ const char *report_standing(void) {
         [REFUSED_BY_DRIVE] = "; the drive refused the acknowledgement and may still hold its data",
         [NOT_KNOWN] = "; whether the drive took the acknowledgement is not known",
     };
+    if (!report.page)
+        return "";
     if (!report.file)
         return "nothing was saved";
     snprintf(text, sizeof text, "%.4096s %s%s", report.file, report.to_standard_output ? "has the whole page" : "is saved and whole",
@@ -59,7 +61,7 @@ static void put_acknowledgement(char *text, size_t room) {
 }
 
 void report_line(void) {
-    char why[256] = "", saved[5632], failed[128] = "", refusal[128], acknowledgement[160];
+    char why[256] = "", saved[5632], failed[128] = "", refusal[128], acknowledgement[160], entered[4160] = "";
     if (report.fault.field)
         snprintf(why, sizeof why, "%s; ", fault_text(&report.fault));
     else if (report.out_of_reach.area)
@@ -70,8 +72,11 @@ void report_line(void) {
     if (report.failed)
         snprintf(failed, sizeof failed, "; %u attempt%s failed because the page changed in between", (unsigned)report.failed,
                  plural(report.failed));
-    say("ending %u (%s): %s%u attempt%s, %llu command%s, %s%s%s%s", report.ending, meaning(report.ending), why, (unsigned)report.attempts,
-        plural(report.attempts), (unsigned long long)report.commands, plural(report.commands), saved, failed, refusal, acknowledgement);
+    if (report.entered)
+        snprintf(entered, sizeof entered, "; entered into %.4096s", report.sheet);
+    say("ending %u (%s): %s%u attempt%s, %llu command%s, %s%s%s%s%s", report.ending, meaning(report.ending), why, (unsigned)report.attempts,
+        plural(report.attempts), (unsigned long long)report.commands, plural(report.commands), saved, failed, refusal, acknowledgement,
+        entered);
 }
 
 static void print_member(const char *name, const char *text) {
@@ -114,6 +119,17 @@ static void print_run(void) {
     print_member("refusal_name", refusal ? status_name(refusal) : NULL);
 }
 
+static void print_sheet(void) {
+    printf(", \"sheet\": ");
+    if (!report.sheet) {
+        fputs("null", stdout);
+        return;
+    }
+    fputs("{\"file\": ", stdout);
+    json_string(report.sheet);
+    printf(", \"entered\": %s}", json_flag(report.entered));
+}
+
 void report_json(int status, const char *error) {
     printf("{\"status\": %d, \"ending\": ", status);
     if (report.ended)
@@ -130,6 +146,7 @@ void report_json(int status, const char *error) {
     print_member("file", report.file);
     printf(", \"bytes\": %zu", report.bytes);
     print_member("sha256", report.sha256[0] ? report.sha256 : NULL);
+    print_sheet();
     puts("}");
     fflush(stdout);
 }

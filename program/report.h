@@ -34,11 +34,13 @@ struct report {
     bool to_standard_output;
     size_t bytes;      /* saved */
     char sha256[65];   /* of them; "": not asked for, or there is nobody to ask */
+    const char *sheet; /* the file that the run is entered into when it has ended; NULL: none */
+    bool entered;      /* and whether it is */
 };
 
 extern struct report report;
 
-/* What stands now, as the second half of a message: what is saved, and what became of the acknowledgement. */
+/* What stands now, as the second half of a message: what is saved, and what became of the acknowledgement. "" where nothing is collected. */
 const char *report_standing(void);
 
 /* Tells the ending in one line. */

@@ -13,6 +13,7 @@
 enum { LINE = 8192 };
 
 static void (*at_death)(int status, const char *error);
+static const char *last_words = "";
 
 void make_plain(char *text) {
     for (char *at = text; *at; at++)
@@ -20,9 +21,11 @@ void make_plain(char *text) {
             *at = '?';
 }
 
-static void line(char text[LINE], const char *format, va_list values) {
+static void line(char text[LINE], const char *format, va_list values, const char *after) {
     if (vsnprintf(text, LINE, format, values) < 0)
         text[0] = '\0';
+    size_t length = strlen(text);
+    snprintf(text + length, LINE - length, "%s", after);
     make_plain(text);
     progress_hide();
     fprintf(stderr, "bumbazeel: %s\n", text);
@@ -31,7 +34,7 @@ static void line(char text[LINE], const char *format, va_list values) {
 static _Noreturn void end(int status, const char *format, va_list values) {
     char text[LINE];
     void (*tell)(int, const char *) = at_death;
-    line(text, format, values);
+    line(text, format, values, last_words);
     at_death = NULL; /* what cannot be told is not told again */
     if (tell)
         tell(status, text);
@@ -54,11 +57,13 @@ void say(const char *format, ...) {
     char text[LINE];
     va_list values;
     va_start(values, format);
-    line(text, format, values);
+    line(text, format, values, "");
     va_end(values);
 }
 
 void say_at_death(void (*tell)(int status, const char *error)) { at_death = tell; }
+
+void say_last(const char *words) { last_words = words; }
 
 const char *meaning(uint8_t answer) {
     static const char *const meanings[] = {
@@ -79,6 +84,7 @@ const char *meaning(uint8_t answer) {
         [BUMBAZEEL_ALREADY_ENDED] = "already ended",
         [BUMBAZEEL_DOES_NOT_FIT] = "completion doesn't fit the awaited command",
         [BUMBAZEEL_OUT_OF_REACH] = "wanted area past block 31, where the drive has no extended data",
+        [BUMBAZEEL_TOTAL_FULL] = "a total would pass 18,446,744,073,709,551,615",
     };
     bool known = answer < sizeof meanings / sizeof *meanings && meanings[answer];
     return known ? meanings[answer] : "unknown answer";

@@ -25,6 +25,9 @@ void say(const char *format, ...) __attribute__((format(printf, 1, 2)));
 /* From here on whatever dies is told on standard output too, by this function. It is called once at most; NULL takes it away. */
 void say_at_death(void (*tell)(int status, const char *error));
 
+/* From here on the line of whatever dies ends with these words, as they stand then. They begin with what parts them from the rest. */
+void say_last(const char *words);
+
 /* The meaning of an answer number, in document 01's words. */
 const char *meaning(uint8_t answer);
 

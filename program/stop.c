@@ -61,5 +61,6 @@ void stop_here(void) {
     for (size_t i = 0; i < sizeof listened / sizeof *listened; i++)
         if (listened[i].number == asked)
             snprintf(name, sizeof name, "%s", listened[i].name);
-    die_with(STATUS_SIGNAL + asked, "interrupted by %s: %s", name, report_standing());
+    const char *standing = report_standing();
+    die_with(STATUS_SIGNAL + asked, "interrupted by %s%s%s", name, *standing ? ": " : "", standing);
 }
