@@ -108,11 +108,13 @@ sanitize: build/libbumbazeel.a
 	@ASAN_OPTIONS=exitcode=99 UBSAN_OPTIONS=exitcode=99 BUMBAZEEL=build/sanitize/bumbazeel tests/outside/program
 	@ASAN_OPTIONS=exitcode=99 UBSAN_OPTIONS=exitcode=99 BUMBAZEEL=build/sanitize/bumbazeel tests/outside/device
 	@ASAN_OPTIONS=exitcode=99 UBSAN_OPTIONS=exitcode=99 BUMBAZEEL=build/sanitize/bumbazeel tests/outside/serve
+	@ASAN_OPTIONS=exitcode=99 UBSAN_OPTIONS=exitcode=99 BUMBAZEEL=build/sanitize/bumbazeel tests/outside/sheet
 
 valgrind: build/bumbazeel
 	@BUMBAZEEL=tests/valgrind tests/outside/program
 	@BUMBAZEEL=tests/valgrind tests/outside/device
 	@BUMBAZEEL=tests/valgrind tests/outside/serve
+	@BUMBAZEEL=tests/valgrind tests/outside/sheet
 
 faults: build/bumbazeel build/shim.so
 	@tests/outside/faults --all
