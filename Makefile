@@ -7,7 +7,8 @@
 # make faults    lets collections meet every fault, one at a time: failing system calls and commands, signals (some minutes)
 # make fuzz      calls the library, and then the server, with whatever a fuzzer thinks of, for ten minutes each (SECONDS=600)
 # make demo      shows a collection that a capture interrupts
-# make bench     measures serving and collecting against memcpy and against nvme-cli, as ratios in one run (BENCH_MIB=512)
+# make bench     measures serving and collecting against memcpy and against nvme-cli, and entering into a sheet against plain sums, as ratios in
+#                one run (BENCH_MIB=512)
 # make clean     removes build/; what rt has proved stays in target/
 version = $(shell sed -n 's/^\#define BUMBAZEEL_VERSION_$(1) //p' include/bumbazeel.h)
 VERSION := $(call version,MAJOR).$(call version,MINOR).$(call version,PATCH)
@@ -146,9 +147,10 @@ build/fuzz/pdu: tests/fuzz/pdu.c $(PDU_SOURCES) $(wildcard program/*.h) build/li
 demo: build/bumbazeel
 	@program/demo build/bumbazeel
 
-bench: build/bench/serving build/bench/collecting build/bumbazeel build/shim.so
+bench: build/bench/serving build/bench/collecting build/bench/entering build/bumbazeel build/shim.so
 	@build/bench/serving
 	@build/bench/collecting
+	@build/bench/entering
 	@bench/stock
 
 build/bench/%: bench/%.c include/bumbazeel.h build/libbumbazeel.a
