@@ -13,6 +13,17 @@ use Rattle.sheets.specs.declared.Sheet.{Sheet}
 use Rattle.sheets.specs.declared.Entered.{Entered}
 use Rattle.sheets.specs.declared.Mean.{Mean}
 
+-- ---- one of a row
+
+-- the test t or one of the row
+abbrev or-from : Bool → List Bool → Bool
+or-from t [] = t
+or-from t (u ∷ us) = or-from (t || u) us
+
+-- a test of the row holds: it computes to the chain of `||` that the code's chain of `|` makes
+abbrev pub oneOf : List Bool → Bool
+oneOf ts = or-from false ts
+
 -- ---- totals
 
 -- the greatest total, 2^64 - 1
@@ -74,9 +85,7 @@ addOf s other = pick (allFit s other) (answered success (plus s other)) (answere
 
 -- an ending that a run has
 abbrev pub isEnding : ℕ → Bool
-isEnding n =
-    eqb n success || eqb n badHeader || eqb n noRoom || eqb n attemptsUsedUp || eqb n withdrawn || eqb n nothing || eqb n brokeItsWord
-    || eqb n outOfReach
+isEnding n = oneOf (map (λ (e : ℕ). eqb n e) endings)
 
 -- a run that can be: it has such an ending, and blocks were kept with 0 alone
 unfoldable pub isRun : Run → Bool
@@ -104,9 +113,7 @@ meanOf s = pick (eqb (good s) 0) noMean (shared (s .blocks) (good s))
 
 -- some run is counted
 abbrev pub anyRun : Sheet → Bool
-anyRun s =
-    leb 1 (getD (s .runs) 0 0) || leb 1 (getD (s .runs) 1 0) || leb 1 (getD (s .runs) 2 0) || leb 1 (getD (s .runs) 3 0)
-    || leb 1 (getD (s .runs) 4 0) || leb 1 (getD (s .runs) 5 0) || leb 1 (getD (s .runs) 6 0) || leb 1 (getD (s .runs) 7 0)
+anyRun s = oneOf (eachOf (λ (i : ℕ). leb 1 (getD (s .runs) i 0)))
 
 -- a sheet that some runs have: no blocks without a good run, no commands and no failed attempts without a run
 unfoldable pub possible : Sheet → Bool

@@ -1,8 +1,8 @@
 // The month's sheet: exact totals over finished runs. A run is entered, sheets are added, and the mean is divided once, at the end.
 //
 // It rests on choices and answers. It promises that a run or another sheet is added to every total exactly, or to none with 13 or 20
-// (specs/Sheets.antt); that a sheet is the exact sums of the runs that were entered, in whatever order, and two sheets added that of the runs
-// of both; and that the mean times the good runs, with the rest, is the blocks (specs/Laws.antt).
+// (specs/Sheets.antt); that a sheet is the exact totals of the runs that were taken, in any order where none is refused, and two sheets added those
+// of the runs taken on both; and that the mean times the good runs, with the rest, is the blocks (specs/Laws.antt).
 ghost use mathlib.Core.Path.{_≡_};
 ghost use Rattle.choices.specs.Choice.{one};
 ghost use Rattle.sheets.specs.Sheets.{blank, single, fits, allFit, answered, isRun, addOf, enterOf, meanOf, possible};
