@@ -3,6 +3,8 @@
 //
 // It rests on answers, header and shared_layouts. It promises each function's answer, for all arguments, as an equation with the
 // definitions that those crates' contracts cite, and has none of its own.
+#![tactic(auto)]
+
 ghost use Rattle.std.specs.Prelude.{◌≡◌};
 ghost use Rattle.answers.specs.Answers.{status_of, status_number};
 ghost use Rattle.answers.specs.Classes.{class_of};

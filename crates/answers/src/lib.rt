@@ -4,6 +4,8 @@
 // It rests on choices, for the words of its definitions. It promises that each answer's status is the one of specs/Answers.antt, that a
 // refusal of the call itself has none, that the table has at every identifier the class that document 01's ranges say, and that the
 // classes' counts are the document's (specs/Classes.antt).
+#![tactic(auto)]
+
 ghost use Rattle.std.specs.Prelude.{◌≡◌};
 ghost use Rattle.answers.specs.Answers.{nvme_status, no_status, status_of, status_number};
 ghost use Rattle.answers.specs.Classes.{class_of};
@@ -51,7 +53,7 @@ const GENERIC: u8 = 0x0;
 const COMMAND_SPECIFIC: u8 = 0x1;
 
 // An NVMe status: status code type and status code. Where none is given, both are 0.
-#[derive(Drop)]
+#[derive(Clone, Copy)]
 pub struct Status {
     pub given: bool,
     pub sct: u8,

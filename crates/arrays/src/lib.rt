@@ -2,6 +2,8 @@
 //
 // It rests on copies and littleendian. It promises that each is put as, and read from, exactly the bytes of specs/Arrays.antt, and that nothing is lost on
 // either way (specs/Back.antt).
+#![tactic(auto)]
+
 ghost use Rattle.std.specs.Prelude.{◌≡◌, ◌+◌, ◌≤◌, length};
 ghost use Rattle.copies.specs.Parts.{put_at};
 ghost use Rattle.arrays.specs.Arrays.{fours_of, fours_at, reason_at};

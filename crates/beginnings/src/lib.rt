@@ -2,6 +2,8 @@
 //
 // It rests on answers, plans, phases and collection, and lists pages, words, header and endings, whose types are parts of those. It promises the first
 // command with the state that awaits it, or the refusal, to any plan (`setup_of` of collection's specs/Collection.antt).
+#![tactic(auto)]
+
 ghost use Rattle.std.specs.Prelude.{◌≡◌};
 ghost use Rattle.collection.specs.Collection.{beginning, setup_of};
 

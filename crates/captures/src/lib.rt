@@ -2,6 +2,8 @@
 //
 // It rests on choices, copies, pages, records and trimming. It promises the record and the store afterwards, whatever is lent
 // (specs/Captures.antt); whether a candidate may be captured is judged before (verdicts).
+#![tactic(auto)]
+
 ghost use Rattle.std.specs.Prelude.{◌≡◌};
 ghost use Rattle.pages.specs.Pages.{last_of};
 ghost use Rattle.trimming.specs.Trimming.{top_of, trim_of};
@@ -11,7 +13,7 @@ use pages::Caps;
 use records::{ControllerPage, HostPage, Record};
 
 // What the record notes of a candidate.
-#[derive(Drop)]
+#[derive(Clone, Copy)]
 struct Noted {
     last: [u32; 4],
     reason: [u8; 128],

@@ -2,6 +2,8 @@
 //
 // It rests on nothing. It promises that each choice is that of specs/Choice.antt. Its definitions are the words that all others are written in: `pick`,
 // `first_that` and `smaller` (specs/Choice.antt), and a row of tests (specs/Tests.antt).
+#![tactic(auto)]
+
 ghost use Rattle.std.specs.Prelude.{◌≡◌};
 ghost use Rattle.choices.specs.Choice.{pick, smaller, larger};
 

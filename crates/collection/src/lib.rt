@@ -4,6 +4,8 @@
 // It rests on choices, answers, words, plans, phases, refusals, completions, endings, judgement, touches and turns, and knows no controller. It promises,
 // for any state, any completion and any copy, the answer and every byte of the copy afterwards (specs/Collection.antt). What decides (`decide`) never looks at a chunk's bytes
 // nor at the copy; `step` looks at the data, lets it decide, and moves the bytes.
+#![tactic(auto)]
+
 ghost use Rattle.std.specs.Prelude.{◌≡◌, length};
 ghost use Rattle.collection.specs.Collection.{awaited_of, turned_to, sends, ends, refuses, act_of, decide_of, step_of, copy_after, Bounded};
 
@@ -18,7 +20,7 @@ use turns::Turn;
 use words::Words;
 
 // A state: what it was asked for, what it awaits, its attempt, and the number of commands sent.
-#[derive(Drop)]
+#[derive(Clone, Copy)]
 pub struct Collection {
     pub plan: Plan,
     pub phase: Phase,
@@ -27,35 +29,35 @@ pub struct Collection {
 }
 
 // How a collection ended, and after how many commands.
-#[derive(Drop)]
+#[derive(Clone, Copy)]
 pub struct Finish {
     pub ending: Ending,
     pub count: u64,
 }
 
 // What completes a command: whether it is a success, and its data.
-#[derive(Drop)]
+#[derive(Clone, Copy)]
 pub struct Completion<'a> {
     pub ok: bool,
     pub data: &'a [u8],
 }
 
 // What follows: the next command, the ending, or a refusal that changed nothing.
-#[derive(Drop)]
+#[derive(Clone, Copy)]
 pub enum Next {
     Send(Words),
     End(Finish),
     Refuse(u8),
 }
 
-#[derive(Drop)]
+#[derive(Clone, Copy)]
 pub struct Stepped {
     pub state: Collection,
     pub next: Next,
 }
 
 // A step, and what happens to the copy with it.
-#[derive(Drop)]
+#[derive(Clone, Copy)]
 pub struct Decided {
     pub stepped: Stepped,
     pub touch: Touch,

@@ -3,6 +3,8 @@
 // It rests on choices, copies, littleendian, arrays, answers, pages, lastblocks, header, plans and phases. It promises what is planned from any bytes (specs/Plan.antt), and what is looked
 // at in any data in any phase, a first header by that very plan (specs/Completions.antt). One check decodes a header wherever it is judged, and no other
 // crate can call it; the page's generation is a byte by itself, since an acknowledgement's is judged though nobody checks the rest.
+#![tactic(auto)]
+
 ghost use Rattle.std.specs.Prelude.{◌≡◌, length};
 ghost use Rattle.choices.specs.Choice.{pick, first_that};
 ghost use Rattle.pages.specs.Pages.{block};
@@ -19,7 +21,7 @@ use plans::Plan;
 
 // What a plan from a header answers: 0 with what the header says and the number of chunks that bring the wanted area; or why not, 7 with what is at
 // fault, and zeros.
-#[derive(Drop)]
+#[derive(Clone, Copy)]
 pub struct Planned {
     pub answer: u8,
     pub fault: Fault,
@@ -29,7 +31,7 @@ pub struct Planned {
 
 // What is looked at in a completion's data: of a first header what its plan answers, of any other data 0; what is at fault in the header, its TCDA and
 // last blocks, which are zeros if it is refused; and the page's own generation byte, as it stands.
-#[derive(Drop)]
+#[derive(Clone, Copy)]
 pub struct Seen {
     pub answer: u8,
     pub fault: Fault,

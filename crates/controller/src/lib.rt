@@ -3,6 +3,8 @@
 // It rests on all of the ground floor, on trimming, serving, verdicts and captures. It promises the answer, the record, both stores and the buffer after
 // any command, capture and drop, on any lent bytes, as one equation each (specs/Controller.antt). Everything is decided before anything is
 // written, so that what is refused changes nothing.
+#![tactic(auto)]
+
 ghost use Rattle.std.specs.Prelude.{◌≡◌, []};
 ghost use Rattle.choices.specs.Choice.{pick};
 ghost use Rattle.captures.specs.Captures.{cleared_of};
@@ -13,7 +15,7 @@ use verdicts::Lent;
 use words::{Command, Words};
 
 // The answer, with the identifier's class where it is 2 (else 0), and the record afterwards.
-#[derive(Drop)]
+#[derive(Clone, Copy)]
 pub struct Answered {
     pub answer: u8,
     pub class: u8,

@@ -5,6 +5,8 @@
 // contracts cite (specs/Boundary.antt). A damaged record is refused, and what is refused changes nothing (specs/Laws.antt). A struct of
 // the header file is an array of its bytes here, and a pointer with a length is a slice. No store or buffer is moved but by the call that
 // serves it.
+#![tactic(auto)]
+
 ghost use Rattle.std.specs.Prelude.{◌≡◌};
 ghost use Rattle.choices.specs.Choice.{pick};
 ghost use Rattle.answers.specs.Answers.{success, disagree};

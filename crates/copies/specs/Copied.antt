@@ -1,7 +1,7 @@
 -- A list that comes to agree with another in more and more places, in whatever order.
 -- Assumes nothing.
 use Rattle.std.specs.Prelude.{ℕ, ◌+◌, ◌-◌, ◌≤◌, ◌<◌, ◌%◌, ◌≡◌, refl, List, ◌++◌, ltb, length, take, drop, get_or}
-use Rattle.std.proofs.Common.{sym, subst, ap, ◌∙◌, arith, length-take, length-drop, length-append, get_or-take, get_or-drop, get_or-append-add, ext_get_or, take_all, ltb-true, ltb-false}
+use Rattle.std.proofs.Common.{sym, subst, ap, ◌∙◌, arith, length-take, length-drop, length-append, drop-drop, get_or-take, get_or-drop, get_or-append-add, ext_get_or, take_all, ltb-true, ltb-false}
 use Rattle.std.proofs.Math.Nat.{add-sub_cancel_left}
 use Rattle.std.proofs.Math.ListN.{get_or-append}
 use Rattle.choices.specs.Tests.{by_test}
@@ -103,6 +103,19 @@ part_back_copied s d a n h q ys e =
     (copy_back d (take (a + n - a) (drop a s)) a fits ys e
     ∙ ap (λ (m : ℕ). put_at d a (take m (drop a s))) (add-sub_cancel_left a n)))
     (part_copied s d a n h q)
+
+-- what a copy of a part of s over just as many elements of d from a on leaves
+pub part_replaced : (s d : List ℕ) (a n m : ℕ) → a + n ≤ length s → length s ≤ length d → m ≡ n → (ys : List ℕ)
+    → ys ≡ take m (drop a s)
+    → CopiedPart s d (take a d ++ (ys ++ drop m (drop a d))) a n
+part_replaced s d a n m h q f ys e =
+    let len : length ys ≡ n = rw (e, f) (simp (length-take, length-drop) (omega arith)) in
+    let whole : take a d ++ (ys ++ drop m (drop a d)) ≡ put_at d a (take n (drop a s)) =
+        ap (λ (l : List ℕ). take a d ++ (ys ++ l)) (drop-drop m a d)
+        ∙ ap (λ (j : ℕ). take a d ++ (ys ++ drop (a + j) d)) (f ∙ sym len)
+        ∙ sym (put_fits d a ys (omega arith))
+        ∙ ap (λ (l : List ℕ). put_at d a l) (e ∙ ap (λ (j : ℕ). take j (drop a s)) f) in
+    subst (λ (l : List ℕ). CopiedPart s d l a n) (sym whole) (part_copied s d a n h q)
 
 -- ---- one copy after another
 

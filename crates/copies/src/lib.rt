@@ -1,11 +1,13 @@
 // Bytes put into a part of a slice: a copy, and zeros.
 //
-// It rests on choices and on the kit's bytes. It promises that a part that lies within the slice is replaced, that nothing else of the
+// It rests on choices. It promises that a part that lies within the slice is replaced, that nothing else of the
 // slice changes, and that nothing changes where the part does not lie within it (specs/Parts.antt).
 //
-// A large copy goes through four pages at once, a piece of each in turn. The kit's copy reads one stream, which leaves a memory that
+// A large copy goes through four pages at once, a piece of each in turn. The library's copy reads one stream, which leaves a memory that
 // no cache holds waiting; several streams keep it busy. The pieces only ever make `dst` agree with `src` in more places, so their
 // order does not matter to the promise (specs/Copied.antt).
+#![tactic(auto)]
+
 ghost use Rattle.std.specs.Prelude.{◌+◌, ◌≤◌, ◌≡◌, length};
 ghost use Rattle.copies.specs.Parts.{put_at, zeros};
 ghost use Rattle.copies.specs.Copied.{CopiedPart, CopiedFronts, front};
@@ -20,7 +22,7 @@ fn copy_part(src: &[u8], dst: &mut [u8], at: usize, count: usize)
     requires { (at + count ≤ length src.now) × (length src.now ≤ length dst.old) }
     ensures { CopiedPart src.now dst.old dst.new at count }
 {
-    bytes::copy(&src[at..at + count], &mut dst[at..]);
+    dst[at..at + count].copy_from_slice(&src[at..at + count]);
 }
 
 // 256 bytes from `at` on in each of four pages.
@@ -65,7 +67,7 @@ fn copy_all(src: &[u8], dst: &mut [u8])
     ensures { dst.new ≡ front src.now dst.old }
 {
     if (src.len() < FOUR_PAGES) | (dst.len() < LARGE) {
-        bytes::copy(src, dst);
+        dst[..src.len()].copy_from_slice(src);
     } else {
         copy_large(src, dst);
     }

@@ -4,3 +4,4 @@
 // It rests on both sides and on sources, whose argument it uses: specs/Bench.antt is the controller as a source, specs/Demand3.antt the promise. All
 // of it is said of the definitions that the contracts of `controller::command`, `controller::capture`, `controller::drop`, `beginnings::setup` and
 // `Collection::step` cite. It has no code of its own.
+#![tactic(auto)]

@@ -5,3 +5,4 @@
 // ending of a collection is one that the month's sheet takes (specs/Month.antt).
 //
 // It rests on both sides' definitions and on the sheet's, and has no code of its own.
+#![tactic(auto)]

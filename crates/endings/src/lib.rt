@@ -1,13 +1,15 @@
 // How a collection ends: the paper's number of each ending, and what it tells beside it.
 //
 // It rests on answers and header. It promises the number and the values of each ending (specs/Endings.antt).
+#![tactic(auto)]
+
 ghost use Rattle.std.specs.Prelude.{◌≡◌};
 ghost use Rattle.endings.specs.Endings.{number_of, newer_of, fault_in};
 
 use header::Fault;
 
 // How a collection ends: with success, and a newer capture acknowledged unread or not; or why not, a bad header with its fault.
-#[derive(Drop)]
+#[derive(Clone, Copy)]
 pub enum Ending {
     Success(bool),
     BadHeader(Fault),

@@ -3,6 +3,8 @@
 // It rests on choices, answers and sheets. It promises that a run is added to every total exactly, or to none with 13 or 20 (specs/Entries.antt);
 // that a sheet is the exact totals of the runs that were taken, in any order where none is refused, and two sheets added those of the runs taken on
 // both (specs/Laws.antt); and that the possible sheets are just those that entering some runs leaves (specs/Reached.antt).
+#![tactic(auto)]
+
 ghost use Rattle.std.specs.Prelude.{◌≡◌};
 ghost use Rattle.answers.specs.Answers.{bad_setup};
 ghost use Rattle.sheets.specs.Sheets.{answered};
@@ -11,7 +13,7 @@ ghost use Rattle.entries.specs.Entries.{single, is_run, enter_of};
 use sheets::{Entered, Sheet};
 
 // A finished run: the number of its ending, the blocks kept, the commands sent and the attempts that failed.
-#[derive(Drop)]
+#[derive(Clone, Copy)]
 pub struct Run {
     pub ending: u8,
     pub blocks: u64,

@@ -3,6 +3,8 @@
 // It rests on choices, copies, littleendian, arrays, pages and lastblocks. It promises that the bytes written are those of specs/Header.antt. What a check finds is defined
 // there too: that its fault is the first of the order (specs/Faults.antt), and that a header written from fields that are good is checked to exactly
 // those fields (specs/Back.antt).
+#![tactic(auto)]
+
 ghost use Rattle.std.specs.Prelude.{ℕ, ◌≡◌, ◌∷◌, ◌++◌};
 ghost use Rattle.copies.specs.Parts.{zeros};
 ghost use Rattle.arrays.specs.Arrays.{fours_of};
@@ -10,7 +12,7 @@ ghost use Rattle.header.specs.Header.{numbers, marks, header_of, faultless, byte
 
 // What a header says. `hostgeneration` is the host generation, which an 08h header does not have: 0 there. `controllergeneration` is the controller
 // generation.
-#[derive(Drop)]
+#[derive(Clone, Copy)]
 pub struct Fields {
     pub page: u8,
     pub oui: u32,
@@ -23,7 +25,7 @@ pub struct Fields {
 }
 
 // What is at fault in a header: the first of these, in this order, of what a good header has otherwise.
-#[derive(Drop)]
+#[derive(Clone, Copy)]
 pub enum Fault {
     // Nothing: the header is good.
     None,
@@ -46,7 +48,7 @@ pub enum Fault {
 }
 
 // What a check answers: the fields where nothing is at fault, or the fault with zeros in their place.
-#[derive(Drop)]
+#[derive(Clone, Copy)]
 pub struct Checked {
     pub fault: Fault,
     pub fields: Fields,

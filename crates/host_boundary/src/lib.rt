@@ -5,6 +5,8 @@
 // those crates' contracts cite (specs/Boundary.antt). A damaged state is refused, and what is refused changes nothing (specs/Laws.antt). A
 // struct of the header file is an array of its bytes here, and a pointer with a length is a slice. No copy or data is moved but by the call
 // that serves it.
+#![tactic(auto)]
+
 ghost use Rattle.std.specs.Prelude.{◌≡◌};
 ghost use Rattle.words.specs.Words.{built_of};
 ghost use Rattle.completions.specs.Plan.{plan_of};

@@ -2,6 +2,8 @@
 //
 // It rests on answers, pages, lastblocks, header, plans, phases, completions and endings. It promises what any completion calls for in any phase of any attempt, in the
 // paper's orders (specs/Judgement.antt).
+#![tactic(auto)]
+
 ghost use Rattle.std.specs.Prelude.{◌≡◌};
 ghost use Rattle.judgement.specs.Judgement.{tests_of, first_order, match_order, later_order, ack_order, chunk_order, judge_by};
 
@@ -12,7 +14,7 @@ use phases::{Attempt, Phase};
 use plans::Plan;
 
 // What a completion calls for. A bool beside an ending or an opening says that it is the next attempt's.
-#[derive(Drop)]
+#[derive(Clone, Copy)]
 pub enum Move {
     // The collection ends.
     End(Ending, bool),
@@ -29,7 +31,7 @@ pub enum Move {
 // What a completion tells of an attempt, test by test: it is refused; what the plan from a first header answers; a header's fault, and that it has one; an
 // 08h header shows no data; what speaks against the area; the header matches the attempt's, in its generation and all four last blocks; its
 // generation is another; no attempt is left; the page is one to acknowledge.
-#[derive(Drop)]
+#[derive(Clone, Copy)]
 struct Tests {
     refused: bool,
     answer: u8,

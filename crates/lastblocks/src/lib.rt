@@ -1,6 +1,8 @@
 // The four last blocks of a page's areas, as one group by value: their rule, area by area, whether two groups are the same, and the greatest of one.
 //
 // It rests on choices and pages. It promises that each answer is that of specs/LastBlocks.antt for any four numbers, and what the rule says of them (specs/Rule.antt).
+#![tactic(auto)]
+
 ghost use Rattle.std.specs.Prelude.{◌≡◌, get_or};
 ghost use Rattle.lastblocks.specs.LastBlocks.{area2_ok, area3_ok, area4_ok, last_ok, same_last, greatest_of};
 

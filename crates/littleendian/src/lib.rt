@@ -2,6 +2,8 @@
 //
 // It rests on copies. It promises that each is put as, and read from, exactly the bytes of specs/Numbers.antt, and that
 // nothing is lost on either way (specs/Back.antt).
+#![tactic(auto)]
+
 ghost use Rattle.std.specs.Prelude.{◌≡◌, ◌+◌, ◌≤◌, [], ◌∷◌, length};
 ghost use Rattle.copies.specs.Parts.{put_at};
 ghost use Rattle.littleendian.specs.Numbers.{bytes_of, value_of, value_at};

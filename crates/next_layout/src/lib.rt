@@ -2,6 +2,8 @@
 //
 // It rests on choices, copies, littleendian, arrays, words, header, endings, collection and shared_layouts. It promises that it is written to exactly the bytes of
 // specs/Layout.antt.
+#![tactic(auto)]
+
 ghost use Rattle.std.specs.Prelude.{◌≡◌};
 ghost use Rattle.next_layout.specs.Layout.{kind_of, next_parts, next_bytes};
 

@@ -1,6 +1,8 @@
 // The two telemetry pages: their numbers, what a controller can do, and by the last blocks of its areas a page's blocks and size.
 //
 // It rests on choices. It promises that each answer is that of specs/Pages.antt for any four last blocks.
+#![tactic(auto)]
+
 ghost use Rattle.std.specs.Prelude.{◌≡◌, ◌*◌};
 ghost use Rattle.pages.specs.Pages.{block, last_of, blocks_of, size_of};
 
@@ -17,7 +19,7 @@ pub const MOST_4: u32 = 1048576;
 
 // What a controller can do: extended data (LPA bit 2), telemetry (LPA bit 3), area 4 (LPA bit 6, DA4S), the host's yes to area 4
 // (ETDAS), and that MCDA is honoured (MCDAS).
-#[derive(Drop)]
+#[derive(Clone, Copy)]
 pub struct Caps {
     pub extended: bool,
     pub telemetry: bool,

@@ -2,6 +2,8 @@
 //
 // It rests on choices, answers, pages, words and plans. It promises of any phase of any plan the awaited command, the length of its data and whether it
 // lies within the area (specs/Asked.antt), and that the awaited command of a plan that setup takes is never a builder's refusal (specs/Awaited.antt).
+#![tactic(auto)]
+
 ghost use Rattle.std.specs.Prelude.{◌≡◌, ◌+◌};
 ghost use Rattle.phases.specs.declared.Phase.TheVariants.{Chunk};
 ghost use Rattle.phases.specs.Phases.{asked, ended_by};
@@ -12,7 +14,7 @@ use words::Words;
 
 // What is awaited: the first header, the chunk that starts at a block of the page, the closing header, after a refused chunk or not, the
 // acknowledgement; or nothing.
-#[derive(Drop)]
+#[derive(Clone, Copy)]
 pub enum Phase {
     First,
     Chunk(u32),
@@ -22,7 +24,7 @@ pub enum Phase {
 }
 
 // An attempt: its number, from 1, and the generation and last blocks of its header.
-#[derive(Drop)]
+#[derive(Clone, Copy)]
 pub struct Attempt {
     pub number: u32,
     pub generation: u8,
@@ -30,7 +32,7 @@ pub struct Attempt {
 }
 
 // What a phase asks the controller for: the builder's arguments after the page.
-#[derive(Drop)]
+#[derive(Clone, Copy)]
 pub struct Ask {
     pub create: bool,
     pub mcda: u8,
@@ -41,7 +43,7 @@ pub struct Ask {
 
 // What is awaited: the bytes that a success brings, and whether the area of the attempt's header can be collected and an awaited chunk starts in
 // it.
-#[derive(Drop)]
+#[derive(Clone, Copy)]
 pub struct Due {
     pub bytes: usize,
     pub within: bool,

@@ -2,6 +2,8 @@
 //
 // It rests on choices, copies, littleendian, arrays, pages, header, completions and shared_layouts. It promises that it is written to exactly the bytes of
 // specs/Layout.antt, and that the field at fault, its byte and the number of chunks are read off them (specs/Back.antt).
+#![tactic(auto)]
+
 ghost use Rattle.std.specs.Prelude.{◌≡◌};
 ghost use Rattle.planned_layout.specs.Layout.{planned_marks, planned_bytes};
 

@@ -2,6 +2,8 @@
 //
 // It rests on choices, answers, pages and words. It promises setup's answer to any plan and what speaks against collecting its wanted area
 // (specs/Plans.antt), and what setup's limits say of a plan's numbers (specs/Limits.antt).
+#![tactic(auto)]
+
 ghost use Rattle.std.specs.Prelude.{◌≡◌};
 ghost use Rattle.choices.specs.Tests.{holds};
 ghost use Rattle.plans.specs.Plans.{chunk_taken, plan_tests, setup_answer, area_last, area_bytes, fits_room, in_reach, area_answer, chunk_of, lead_of};
@@ -16,7 +18,7 @@ pub const MOST_ROOM: usize = 536870912;
 pub const REACH: u32 = 31;
 
 // What setup is asked for: `area` is the wanted area, `chunk` the blocks of a command, none without extended data, `room` the bytes of the copy.
-#[derive(Drop)]
+#[derive(Clone, Copy)]
 pub struct Plan {
     pub page: u8,
     pub create: bool,

@@ -5,11 +5,13 @@
 // the next place (specs/Reader.antt); reading on gives the copy's whole blocks in order (specs/Blocks.antt). The plain step over copy and place is
 // `block_at` and `place_at`; `next` takes a reader apart, calls them and hands out the block with the reader moved on, and `first` goes from a
 // plain copy through a reader to its first block.
+#![tactic(auto)]
+
 ghost use Rattle.std.specs.Prelude.{◌≡◌, length};
 ghost use Rattle.reader.specs.Reader.{more_at, block_at, part_at, place_at, moved_on};
 
 // A place in a copy, and whether the step that led there found a block.
-#[derive(Drop)]
+#[derive(Clone, Copy)]
 pub struct Place {
     pub more: bool,
     pub at: usize,
@@ -49,14 +51,14 @@ pub fn place_at(n: usize, at: usize) -> Place
     Place { more: false, at }
 }
 
-#[derive(Drop)]
+#[derive(Clone, Copy)]
 pub struct Reader<'a> {
     pub copy: &'a [u8],
     pub at: usize,
 }
 
 // What a reader hands out: the block as that part of the copy, whether there was one, and the reader moved on.
-#[derive(Drop)]
+#[derive(Clone, Copy)]
 pub struct Handed<'a> {
     pub part: &'a [u8],
     pub more: bool,

@@ -3,6 +3,8 @@
 // It rests on choices, copies, littleendian, arrays, records and shared_layouts. It promises that a record is written to and read from exactly the
 // bytes of specs/Layout.antt, whatever they are, and that what is written reads back to what it was, and intact bytes to themselves
 // (specs/Back.antt).
+#![tactic(auto)]
+
 ghost use Rattle.std.specs.Prelude.{◌≡◌};
 ghost use Rattle.record_layout.specs.Layout.{record_marks, record_bytes, host_at, controller_at, record_at, record_intact};
 

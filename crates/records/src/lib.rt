@@ -3,6 +3,8 @@
 // It rests on choices, copies, pages, lastblocks and header. It promises when a record and the lent stores agree, what a header of each page shows
 // of a record (specs/Records.antt), and that the header of an agreeing record is checked by the host to just that (specs/Back.antt).
 // The four parts are structs of their own, since later they do not all belong to one controller.
+#![tactic(auto)]
+
 ghost use Rattle.std.specs.Prelude.{◌≡◌, ◌*◌};
 ghost use Rattle.records.specs.Records.{identity_ok, store_ok, controller_ok, agrees_with, host_fields, controller_fields, fields_for, fresh_of};
 
@@ -10,7 +12,7 @@ use header::Fields;
 use pages::Caps;
 
 // Fixed for a controller's life: the OUI, and the scopes of its 07h and its 08h data.
-#[derive(Drop)]
+#[derive(Clone, Copy)]
 pub struct Identity {
     pub oui: u32,
     pub hostscope: u8,
@@ -18,7 +20,7 @@ pub struct Identity {
 }
 
 // Page 07h, host-initiated.
-#[derive(Drop)]
+#[derive(Clone, Copy)]
 pub struct HostPage {
     pub last: [u32; 4],
     pub generation: u8,
@@ -26,7 +28,7 @@ pub struct HostPage {
 }
 
 // Page 08h, controller-initiated. `notice` is the event that tells a host of it.
-#[derive(Drop)]
+#[derive(Clone, Copy)]
 pub struct ControllerPage {
     pub last: [u32; 4],
     pub generation: u8,
@@ -35,7 +37,7 @@ pub struct ControllerPage {
     pub reason: [u8; 128],
 }
 
-#[derive(Drop)]
+#[derive(Clone, Copy)]
 pub struct Record {
     pub caps: Caps,
     pub identity: Identity,

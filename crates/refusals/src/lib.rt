@@ -2,6 +2,8 @@
 //
 // It rests on choices, answers, pages, plans and phases. It promises the first that speaks against any step, in any state and with any completion
 // (specs/Refusals.antt).
+#![tactic(auto)]
+
 ghost use Rattle.std.specs.Prelude.{◌≡◌};
 ghost use Rattle.refusals.specs.Refusals.{most_count, first_refusal, refusal_by};
 
@@ -12,7 +14,7 @@ use plans::Plan;
 const MOST_OF_ATTEMPT: u64 = 1048577;
 
 // What is known of a completion before it is looked at: that it is a success, and how long its data and the lent copy are.
-#[derive(Drop)]
+#[derive(Clone, Copy)]
 pub struct Offered {
     pub ok: bool,
     pub bytes: usize,

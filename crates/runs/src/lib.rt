@@ -6,3 +6,4 @@
 //
 // It rests on choices, copies, answers, pages, lastblocks, words, header, plans, phases, refusals, completions, endings, judgement, touches, turns
 // and collection, and has no code of its own.
+#![tactic(auto)]

@@ -2,6 +2,8 @@
 //
 // It rests on choices, copies, pages, words, header and records. It promises that the buffer's front is the page's bytes from the offset on
 // and that the rest of the buffer stays (specs/Serving.antt). Bytes move in three straight runs, and no more of the store is touched than is asked for.
+#![tactic(auto)]
+
 ghost use Rattle.std.specs.Prelude.{◌≡◌, ◌++◌, ◌+◌, ◌*◌, ◌≤◌, length, take, drop};
 ghost use Rattle.pages.specs.Pages.{block, per_page};
 ghost use Rattle.header.specs.Header.{header_of};

@@ -3,6 +3,8 @@
 // It rests on choices, pages and header. It promises that each is the byte of specs/Layouts.antt, and that capabilities read back to what they were and a byte of
 // five bits to itself (specs/Back.antt), and so does a fault, and a number up to 8, which is the fault's place in the order of the check
 // (specs/Faults.antt).
+#![tactic(auto)]
+
 ghost use Rattle.std.specs.Prelude.{◌≡◌, ◌≤◌};
 ghost use Rattle.choices.specs.Choice.{pick};
 ghost use Rattle.shared_layouts.specs.Layouts.{caps_byte, caps_of, fault_number, fault_by};

@@ -3,6 +3,8 @@
 // It rests on sheet_layout for the structs and on sheets and entries for the work. It promises each function's answer and every lent byte afterwards, for all
 // arguments, as an equation with the definitions that those crates' contracts cite (specs/Boundary.antt). A damaged sheet is refused, what is refused
 // changes no byte, and what is written can be lent again (specs/Laws.antt).
+#![tactic(auto)]
+
 ghost use Rattle.std.specs.Prelude.{◌≡◌};
 ghost use Rattle.sheets.specs.Sheets.{blank};
 ghost use Rattle.sheet_layout.specs.Layout.{sheet_bytes, mean_bytes};

@@ -3,6 +3,8 @@
 // It rests on choices, copies, littleendian and sheets. It promises that a sheet is written to and read from exactly the bytes of
 // specs/Layout.antt, whatever they are, that a sheet that some runs have is intact when written and reads back to what it was, that intact bytes are those of the
 // sheet that they say, and that the check finds any one number changed (specs/Back.antt).
+#![tactic(auto)]
+
 ghost use Rattle.std.specs.Prelude.{◌≡◌};
 ghost use Rattle.sheet_layout.specs.Layout.{eights_of, eights_at, check_of, sheet_bytes, sheet_at, sheet_intact, mean_bytes};
 

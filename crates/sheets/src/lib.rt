@@ -2,12 +2,14 @@
 //
 // It rests on choices and answers. It promises that another sheet is added to every total exactly, or to none with 20 (specs/Sheets.antt); that
 // addition leaves a possible sheet possible (specs/Possible.antt); and that the mean times the good runs, with the rest, is the blocks (specs/Laws.antt).
+#![tactic(auto)]
+
 ghost use Rattle.std.specs.Prelude.{◌≡◌};
 ghost use Rattle.sheets.specs.Sheets.{blank, fits, all_fit, answered, add_of, mean_of, possible};
 ghost use Rattle.sheets.specs.Steps.{runs_fit, wrapped_runs, wrapped};
 
 // The totals: runs by ending (0, 7, 8, 9, 10, 11, 12 and 19), blocks kept, commands sent, failed attempts.
-#[derive(Drop)]
+#[derive(Clone, Copy)]
 pub struct Sheet {
     pub runs: [u64; 8],
     pub blocks: u64,
@@ -16,14 +18,14 @@ pub struct Sheet {
 }
 
 // An answer, and the sheet afterwards.
-#[derive(Drop)]
+#[derive(Clone, Copy)]
 pub struct Entered {
     pub answer: u8,
     pub sheet: Sheet,
 }
 
 // The mean blocks a good run: its whole part, and what is left of the blocks. Where none is given, both are 0.
-#[derive(Drop)]
+#[derive(Clone, Copy)]
 pub struct Mean {
     pub given: bool,
     pub whole: u64,

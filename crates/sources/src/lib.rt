@@ -3,3 +3,4 @@
 //
 // It rests on the host side and knows no controller: the crate demand3 shows that the project's own controller is such a source. It has no
 // code of its own.
+#![tactic(auto)]

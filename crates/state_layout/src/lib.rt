@@ -3,6 +3,8 @@
 // It rests on choices, copies, littleendian, arrays, plans, phases, collection and shared_layouts. It promises that a state is written to and read
 // from exactly the bytes of specs/Layout.antt, whatever they are, and that what is written reads back to what it was, and intact bytes to
 // themselves (specs/Back.antt).
+#![tactic(auto)]
+
 ghost use Rattle.std.specs.Prelude.{◌≡◌};
 ghost use Rattle.state_layout.specs.Layout.{phase_byte, chunk_start, phase_of, state_marks, state_bytes, plan_from, state_at, state_intact};
 

@@ -1,5 +1,7 @@
 // Commands and captures through the compiled controller: the rows of document 01, the order of its refusals, and what an
 // acknowledgement clears. The file stdout beside src/ has what the paper says of each.
+#![tactic(auto)]
+
 use controller::Answered;
 use libc::STDOUT_FILENO;
 use pages::Caps;

@@ -2,6 +2,8 @@
 // the first header, cN the chunk at block N, h a closing header and A the acknowledgement, with a ! where the controller refused; then the ending,
 // the number of commands, and whether the copy is as promised: the area as it stood at the last header, then zeros, or zeros alone. Of a run of a hundred
 // thousand commands it does not write them. The file stdout beside src/ has the table of these runs.
+#![tactic(auto)]
+
 use collection::{Collection, Next};
 use controller::Answered;
 use libc::STDOUT_FILENO;

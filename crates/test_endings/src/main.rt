@@ -1,6 +1,8 @@
 // Every ending of a collection and every answer of setup and step, each driven once by real steps, with two that would apply at the same
 // time wherever the paper gives an order. Of each it writes the answer, what is at fault in a bad header, the number of commands and what the
 // copy holds. The file stdout beside src/ has what the papers say.
+#![tactic(auto)]
+
 use collection::{Collection, Next, Stepped};
 use header::{Fault, Fields};
 use libc::STDOUT_FILENO;

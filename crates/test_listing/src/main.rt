@@ -1,5 +1,7 @@
 // The whole listing of document 01, 08h with B = 7 and c = 3 and no capture, and its row B = 0 on 07h: each command as the steps of a
 // collection give it, and the ending; then the finished copy's blocks through a reader. The file stdout beside src/ has what the paper says.
+#![tactic(auto)]
+
 ghost use Rattle.std.specs.Prelude.{◌≡◌, length};
 ghost use Rattle.reader.specs.Reader.{more_at, place_at};
 

@@ -1,5 +1,7 @@
 // The rows and vectors of document 01 that concern the words, the pages, the headers and the classes, and document 02's order of faults in a header (Q-2) and of a
 // plan's refusals (Q-4), run by the compiled code. The file stdout beside src/ has what the papers say of each.
+#![tactic(auto)]
+
 use completions::Planned;
 use header::Fields;
 use libc::STDOUT_FILENO;

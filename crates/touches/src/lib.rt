@@ -1,12 +1,14 @@
 // What happens to a collection's copy.
 //
 // It rests on copies. It promises every byte of a copy that something happens to (specs/Touched.antt).
+#![tactic(auto)]
+
 ghost use Rattle.std.specs.Prelude.{◌≡◌, drop};
 ghost use Rattle.copies.specs.Parts.{put_at};
 ghost use Rattle.touches.specs.Touched.{zeros_from, touched};
 
 // What happens to the copy: nothing, the data from a byte of it on goes to a place, zeros from a place on, zeros everywhere.
-#[derive(Drop)]
+#[derive(Clone, Copy)]
 pub enum Touch {
     Keep,
     Place(usize, usize),

@@ -2,6 +2,8 @@
 //
 // It rests on choices, pages and lastblocks. It promises that each answer is that of specs/Trimming.antt for any numbers, and that trimming a candidate
 // whose numbers are in order gives last blocks that keep the rule (specs/Trimmed.antt).
+#![tactic(auto)]
+
 ghost use Rattle.std.specs.Prelude.{◌≡◌};
 ghost use Rattle.trimming.specs.Trimming.{top_of, trimmed_to, trim_of};
 

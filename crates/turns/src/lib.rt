@@ -2,6 +2,8 @@
 //
 // It rests on choices, answers, pages, plans, phases, completions, endings, judgement and touches. It promises the turn that any move in any attempt makes
 // (specs/Turns.antt).
+#![tactic(auto)]
+
 ghost use Rattle.std.specs.Prelude.{◌≡◌, ◌-◌, ◌*◌};
 ghost use Rattle.pages.specs.Pages.{block};
 ghost use Rattle.turns.specs.Turns.{opening_of, following_of, left_by, turned, turn_of};
@@ -15,7 +17,7 @@ use touches::Touch;
 
 // What follows a move: the phase, in this attempt or the next one, the generation and last blocks of that attempt's header, and what happens to the
 // copy.
-#[derive(Drop)]
+#[derive(Clone, Copy)]
 pub struct Turn {
     pub phase: Phase,
     pub next: bool,

@@ -2,6 +2,8 @@
 //
 // It rests on choices, answers, pages, words, records and trimming. It promises that the answers stand in document 01's order
 // (specs/Verdicts.antt), and says what an answer of 0 tells of the numbers (specs/Accepted.antt), on which the writing rests.
+#![tactic(auto)]
+
 ghost use Rattle.std.specs.Prelude.{◌≡◌};
 ghost use Rattle.verdicts.specs.Verdicts.{command_order, candidate_ok, field_bad, last_after, command_answer, capture_answer};
 
@@ -10,7 +12,7 @@ use records::Record;
 use words::Command;
 
 // The bytes of what is lent: both stores, the candidate's bytes and its reason, and the transfer buffer.
-#[derive(Drop)]
+#[derive(Clone, Copy)]
 pub struct Lent {
     pub host: usize,
     pub controller: usize,

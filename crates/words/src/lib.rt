@@ -2,6 +2,8 @@
 //
 // It rests on choices, answers and pages. It promises that any five words are read to what specs/Words.antt says, that the builder gives the words of
 // its arguments or 13 with five zero words, and that what it builds is read back to the arguments (specs/Back.antt).
+#![tactic(auto)]
+
 ghost use Rattle.std.specs.Prelude.{◌≡◌, ◌+◌, ◌-◌, ◌*◌, ◌/◌, ◌%◌, ◌≤◌};
 ghost use Rattle.choices.specs.Choice.{pick};
 ghost use Rattle.words.specs.Words.{long_bytes, short_bytes, offset_of, read_of, taken, packed_of, no_words, built_of};
@@ -11,7 +13,7 @@ ghost use Rattle.words.specs.Back.{Bounds};
 pub const MOST_BLOCKS: u32 = 8192;
 
 // CDW10 to CDW14.
-#[derive(Drop)]
+#[derive(Clone, Copy)]
 pub struct Words {
     pub cdw10: u32,
     pub cdw11: u32,
@@ -21,7 +23,7 @@ pub struct Words {
 }
 
 // What five words ask for: `bytes` is the transfer's length, and `offset` is in bytes too.
-#[derive(Drop)]
+#[derive(Clone, Copy)]
 pub struct Command {
     pub page: u8,
     pub create: bool,
@@ -33,7 +35,7 @@ pub struct Command {
 }
 
 // The builder's answer, 0 or 13, with the words, which are zeros with 13.
-#[derive(Drop)]
+#[derive(Clone, Copy)]
 pub struct Built {
     pub answer: u8,
     pub words: Words,

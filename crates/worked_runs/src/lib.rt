@@ -3,3 +3,4 @@
 //
 // It rests on demand3 and on what that rests on: specs/Scene.antt has the drives and what happens to them, specs/Lazy.antt the lazy collectors,
 // specs/Computed.antt the runs, specs/Many.antt those with hundreds of captures, specs/Refuted.antt what they show. It has no code of its own.
+#![tactic(auto)]

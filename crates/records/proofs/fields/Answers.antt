@@ -1,0 +1,12 @@
+-- `records::fields` meets its contract: the two arms are the definition's.
+-- Assumes nothing.
+use Rattle.records.specs.Records.{fields_for}
+use Rattle.records.proofs.fields.Goals as goal
+
+pub returns-then-host : goal.returns-then-host
+unfolding fields_for
+returns-then-host c = rw c.if-host.true c.host_fields.ensures
+
+pub returns-else-host : goal.returns-else-host
+unfolding fields_for
+returns-else-host c = rw c.if-host.false c.controller_fields.ensures
