@@ -4,7 +4,7 @@
 -- Assumes nothing.
 use Rattle.std.specs.Prelude.{ℕ, ◌+◌, ◌-◌, ◌*◌, ◌≤◌, ◌<◌, ◌≡◌, refl, List, [], ◌∷◌, ◌++◌, Bool, true, false, not, ◌&&◌, ◌||◌, length, leb, eqb}
 use Rattle.std.proofs.Common.{sym, ap, subst, ◌∙◌, mul-add, mul-le-mul_left, mul-le-mul_right, div-lt_iff_lt-mul, leb-true, le-leb, eq-eqb}
-use Rattle.std.proofs.Math.Bool.{or_true}
+use Rattle.std.proofs.Math.Bool.{or-true}
 use native.Mathlib.Omega.{arith}
 use Rattle.std.proofs.Math.Nat.{add-mul, div-eq-sub-div}
 use Rattle.choices.specs.Choice.{pick, pick_cases, larger_left, larger_right, first_that}
@@ -276,7 +276,7 @@ unfolding in_reach fits_room
 begins most p e =
     let l = plan_limits p e in
     let z = no_area p.area in
-    rw (setup_taken p e) (record { plan = e; low = omega arith; high = l.attempts_low; area = both_fit p (zeros 4) (rw z (or_true p.caps.extended)) (rw z (le-leb 0 p.room (omega arith))); inside = refl; few = omega arith })
+    rw (setup_taken p e) (record { plan = e; low = omega arith; high = l.attempts_low; area = both_fit p (zeros 4) (rw z (or-true p.caps.extended)) (rw z (le-leb 0 p.room (omega arith))); inside = refl; few = omega arith })
 
 pub run_reached : (most : ℕ) (s : Collection) (ks : List Completion) → Reached most s → most_chunks s.plan (headers_of s ks) ≤ most → Reached most (after s ks)
 unfolding after headers_of most_chunks
