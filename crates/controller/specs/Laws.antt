@@ -22,7 +22,7 @@ use Rattle.verdicts.specs.Verdicts.{command_answer, capture_answer}
 use Rattle.verdicts.specs.Accepted.{Whole, Accepted, accepted, Captures, captures}
 use Rattle.captures.specs.Captures.{cleared_of, dropped_of}
 use Rattle.controller.specs.Steps.{create_host, host_stays, captured, no_capture}
-use Rattle.controller.specs.Controller.{World, world, Candidate, host_captured, controller_captured, outcome, Outcome, class_for, lent_by, acknowledges, cleared, before, sent_of, afterwards, answered, command_of, capture_answered, capture_of, host_dropped, drop_of}
+use Rattle.controller.specs.Controller.{World, Candidate, host_captured, controller_captured, outcome, Outcome, class_for, lent_by, acknowledges, cleared, before, sent_of, afterwards, answered, command_of, capture_answered, capture_of, host_dropped, drop_of}
 
 -- what the words say, and the answer to that
 abbrev pub asked : World → Words → Command
