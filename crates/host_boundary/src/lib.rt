@@ -28,8 +28,7 @@ fn words_list(w: Words) -> [u32; 5]
 }
 
 // Plans a collection from a header, and writes what it says and the number of chunks, or zeros, with 7 what is at fault.
-#[unsafe(no_mangle)]
-pub extern "C" fn bumbazeel_plan(
+pub fn bumbazeel_plan(
     page: u8,
     area: u8,
     caps: u8,
@@ -47,8 +46,7 @@ pub extern "C" fn bumbazeel_plan(
 }
 
 // Builds the words of a command.
-#[unsafe(no_mangle)]
-pub extern "C" fn bumbazeel_words(
+pub fn bumbazeel_words(
     page: u8,
     create: u8,
     mcda: u8,
@@ -66,8 +64,7 @@ pub extern "C" fn bumbazeel_words(
 }
 
 // Begins a collection: writes its state and what follows.
-#[unsafe(no_mangle)]
-pub extern "C" fn bumbazeel_setup(
+pub fn bumbazeel_setup(
     page: u8,
     create: u8,
     area: u8,
@@ -109,8 +106,7 @@ fn state_after(lent: [u8; 56], kind: u8, after: Collection) -> [u8; 56]
 }
 
 // Takes a completion: writes the next state, unless it refuses, the copy, and what follows.
-#[unsafe(no_mangle)]
-pub extern "C" fn bumbazeel_step(
+pub fn bumbazeel_step(
     state: &mut [u8; 56],
     ok: u8,
     data: &[u8],
