@@ -1,6 +1,6 @@
 -- What is written reads back exactly, and intact bytes are the bytes of the record that they say: nothing is lost on either way.
 -- Assumes nothing.
-use Rattle.std.specs.Prelude.{ℕ, ◌+◌, ◌≡◌, refl, List, [], ◌∷◌, ◌++◌, Bool, true, length, get_or, take, drop}
+use Rattle.std.specs.Prelude.{ℕ, ◌+◌, ◌≡◌, refl, List, ◌++◌, Bool, true, length, get_or, take, drop}
 use Rattle.std.proofs.Common.{sym, ap, ◌∙◌, append_assoc, arith, length-append, length-drop, take-append-drop, take_all, drop-drop, take_at, drop_at, le-leb, eqb-true}
 use Rattle.choices.specs.Choice.{one}
 use Rattle.choices.specs.Tests.{holds, each}

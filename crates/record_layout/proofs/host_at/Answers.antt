@@ -1,0 +1,8 @@
+-- `record_layout::host_at` meets its contract: each field is read from the bytes that the definition names.
+-- Assumes nothing.
+use Rattle.record_layout.specs.Steps.{host_is}
+use Rattle.record_layout.proofs.host_at.Goals as goal
+
+pub returns : goal.returns
+returns c =
+    host_is c.args.b.now c.fours_at-last.ensures c.reason_at-reason.ensures
