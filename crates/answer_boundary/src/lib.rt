@@ -12,24 +12,21 @@ ghost use Rattle.header.specs.Header.{byte_of};
 ghost use Rattle.shared_layouts.specs.Layouts.{fault_by};
 
 // The class of a page identifier.
-#[unsafe(no_mangle)]
-pub extern "C" fn bumbazeel_class(page: u8) -> u8
+pub fn bumbazeel_class(page: u8) -> u8
     ensures { result ≡ class_of page }
 {
     answers::class(page)
 }
 
 // The NVMe status of an answer as one number.
-#[unsafe(no_mangle)]
-pub extern "C" fn bumbazeel_status(answer: u8) -> u16
+pub fn bumbazeel_status(answer: u8) -> u16
     ensures { result ≡ status_number (status_of answer) }
 {
     answers::status_number(answer)
 }
 
 // The byte at which a field, by its number, starts in a header of the page.
-#[unsafe(no_mangle)]
-pub extern "C" fn bumbazeel_field_byte(page: u8, field: u8) -> u16
+pub fn bumbazeel_field_byte(page: u8, field: u8) -> u16
     ensures { result ≡ byte_of page (fault_by field) }
 {
     header::byte_of(page, shared_layouts::fault_by(field))
