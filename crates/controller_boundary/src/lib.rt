@@ -29,8 +29,7 @@ fn words_of(a: [u32; 5]) -> Words
 }
 
 // Writes a record before any capture, or zeros.
-#[unsafe(no_mangle)]
-pub extern "C" fn bumbazeel_fresh(
+pub fn bumbazeel_fresh(
     caps: u8,
     oui: u32,
     host_scope: u8,
@@ -67,8 +66,7 @@ fn record_after(lent: [u8; 300], answer: u8, after: Record) -> [u8; 300]
 }
 
 // Answers a command: writes record, host store and buffer where it succeeds, and the class.
-#[unsafe(no_mangle)]
-pub extern "C" fn bumbazeel_command(
+pub fn bumbazeel_command(
     own: &mut [u8; 300],
     host_store: &mut [u8],
     controller_store: &[u8],
@@ -104,8 +102,7 @@ pub extern "C" fn bumbazeel_command(
 }
 
 // Takes a capture of the controller's own: writes record and controller store where it succeeds.
-#[unsafe(no_mangle)]
-pub extern "C" fn bumbazeel_capture(
+pub fn bumbazeel_capture(
     own: &mut [u8; 300],
     host_store: &[u8],
     controller_store: &mut [u8],
@@ -133,12 +130,7 @@ pub extern "C" fn bumbazeel_capture(
 }
 
 // Drops the host's data: writes the record where it succeeds.
-#[unsafe(no_mangle)]
-pub extern "C" fn bumbazeel_drop(
-    own: &mut [u8; 300],
-    host_store: &[u8],
-    controller_store: &[u8],
-) -> u8
+pub fn bumbazeel_drop(own: &mut [u8; 300], host_store: &[u8], controller_store: &[u8]) -> u8
     ensures { drop_answer result own.new ≡ drop_at own.old host_store.now controller_store.now }
 {
     if !record_layout::record_intact(&*own) {
