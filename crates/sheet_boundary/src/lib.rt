@@ -60,22 +60,14 @@ fn bytes_after(lent: [u8; 104], x: Entered) -> [u8; 104]
 }
 
 // Writes a sheet with no run entered.
-#[unsafe(no_mangle)]
-pub extern "C" fn bumbazeel_new_sheet(sheet: &mut [u8; 104])
+pub fn bumbazeel_new_sheet(sheet: &mut [u8; 104])
     ensures { sheet.new ≡ sheet_bytes blank }
 {
     *sheet = sheet_layout::write_sheet(sheets::none());
 }
 
 // Enters a finished run: how it ended, the blocks kept, the commands sent and the failed attempts.
-#[unsafe(no_mangle)]
-pub extern "C" fn bumbazeel_enter(
-    sheet: &mut [u8; 104],
-    ending: u8,
-    kept: u64,
-    sent: u64,
-    failed: u64,
-) -> u8
+pub fn bumbazeel_enter(sheet: &mut [u8; 104], ending: u8, kept: u64, sent: u64, failed: u64) -> u8
     ensures { (result ≡ (enter_at sheet.old (run_of ending kept sent failed)).answer)
         × (sheet.new ≡ bytes_after sheet.old (enter_at sheet.old (run_of ending kept sent failed))) }
 {
@@ -94,8 +86,7 @@ pub extern "C" fn bumbazeel_enter(
 }
 
 // Adds another sheet.
-#[unsafe(no_mangle)]
-pub extern "C" fn bumbazeel_add(sheet: &mut [u8; 104], more: &[u8; 104]) -> u8
+pub fn bumbazeel_add(sheet: &mut [u8; 104], more: &[u8; 104]) -> u8
     ensures { (result ≡ (add_at sheet.old more.now).answer)
         × (sheet.new ≡ bytes_after sheet.old (add_at sheet.old more.now)) }
 {
@@ -106,8 +97,7 @@ pub extern "C" fn bumbazeel_add(sheet: &mut [u8; 104], more: &[u8; 104]) -> u8
 }
 
 // The mean blocks a good run.
-#[unsafe(no_mangle)]
-pub extern "C" fn bumbazeel_mean(sheet: &[u8; 104], mean: &mut [u8; 24]) -> u8
+pub fn bumbazeel_mean(sheet: &[u8; 104], mean: &mut [u8; 24]) -> u8
     ensures { (result ≡ mean_answer sheet.now)
         × (mean.new ≡ mean_bytes (mean_at sheet.now)) }
 {
