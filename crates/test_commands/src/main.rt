@@ -3,27 +3,10 @@
 #![tactic(auto)]
 
 use controller::Answered;
-use libc::STDOUT_FILENO;
 use pages::Caps;
 use records::{Identity, Record};
+use std::io;
 use words::Words;
-
-fn say(text: &[u8]) {
-    io::write_all(STDOUT_FILENO, text);
-}
-
-fn decimal(n: u64) {
-    io::print_decimal(STDOUT_FILENO, n);
-}
-
-fn letter(c: u8) {
-    say(&[c]);
-}
-
-fn byte(b: u8) {
-    letter(b' ');
-    decimal(b as u64);
-}
 
 fn fresh(four: bool) -> Record {
     records::fresh(
@@ -62,38 +45,26 @@ fn nine() -> [u8; 4608] {
 
 // The answer and its class; then, of the record, the host generation, the third last block of 07h, the controller generation, TCDA
 // and the notice.
-fn show(x: Answered) -> Record {
+fn show(rt: &impl Print, x: Answered) -> io::Result<Record> {
     let r = x.own;
     let host = r.host;
     let controller = r.controller;
     let last = host.last;
-    decimal(x.answer as u64);
-    byte(x.class);
-    say(b" | 07h");
-    byte(host.generation);
-    third(last[2]);
-    say(b" | 08h");
-    byte(controller.generation);
-    byte(controller.tcda);
+    print!(rt; "{} {}", x.answer, x.class)?;
+    print!(rt; " | 07h {} {}", host.generation, last[2])?;
+    print!(rt; " | 08h {} {}", controller.generation, controller.tcda)?;
     if controller.notice {
-        say(b" notice");
+        print!(rt; " notice")?;
     }
-    r
-}
-
-fn third(n: u32) {
-    letter(b' ');
-    decimal(n as u64);
+    Ok(r)
 }
 
 // Four bytes of the buffer: the ends of its two blocks.
-fn ends(buf: &[u8; 1024]) {
-    say(b" | buffer");
-    byte(buf[0]);
-    byte(buf[511]);
-    byte(buf[512]);
-    byte(buf[1023]);
-    letter(b'\n');
+fn ends(rt: &impl Print, buf: &[u8; 1024]) -> io::Result<()> {
+    println!(rt;
+        " | buffer {} {} {} {}",
+        buf[0], buf[511], buf[512], buf[1023]
+    )
 }
 
 fn words(cdw10: u32, cdw12: u32, cdw13: u32, cdw14: u32) -> Words {
@@ -108,14 +79,15 @@ fn words(cdw10: u32, cdw12: u32, cdw13: u32, cdw14: u32) -> Words {
 
 // A command with the candidate (2,2,5,9) and a buffer of 1,024 bytes of 200.
 fn send(
+    rt: &impl Print,
     r: Record,
     host: &mut [u8; 4608],
     controller: &[u8; 4608],
     reason: &[u8],
     w: Words,
-) -> Record {
+) -> io::Result<Record> {
     let mut buf = [200; 1024];
-    let next = show(controller::command(
+    let x = controller::command(
         r,
         host,
         controller,
@@ -124,28 +96,55 @@ fn send(
         reason,
         w,
         &mut buf,
-    ));
-    ends(&buf);
-    next
+    );
+    let next = show(rt, x)?;
+    ends(rt, &buf)?;
+    Ok(next)
 }
 
 // The same while 08h has never been captured.
-fn send_words(r: Record, host: &mut [u8; 4608], w: Words) -> Record {
-    send(r, host, &[0; 4608], &[77; 128], w)
+fn send_words(rt: &impl Print, r: Record, host: &mut [u8; 4608], w: Words) -> io::Result<Record> {
+    send(rt, r, host, &[0; 4608], &[77; 128], w)
 }
 
-fn to_host(r: Record, host: &mut [u8; 4608], cdw10: u32, offset: u32) -> Record {
-    send_words(r, host, words(cdw10, offset, 0, 0))
+fn to_host(
+    rt: &impl Print,
+    r: Record,
+    host: &mut [u8; 4608],
+    cdw10: u32,
+    offset: u32,
+) -> io::Result<Record> {
+    send_words(rt, r, host, words(cdw10, offset, 0, 0))
 }
 
 // The same with a candidate whose reason is a byte short.
-fn broken_to_host(r: Record, host: &mut [u8; 4608], cdw10: u32, offset: u32) -> Record {
-    send(r, host, &[0; 4608], &[77; 127], words(cdw10, offset, 0, 0))
+fn broken_to_host(
+    rt: &impl Print,
+    r: Record,
+    host: &mut [u8; 4608],
+    cdw10: u32,
+    offset: u32,
+) -> io::Result<Record> {
+    send(
+        rt,
+        r,
+        host,
+        &[0; 4608],
+        &[77; 127],
+        words(cdw10, offset, 0, 0),
+    )
 }
 
 // A command while 07h has never been captured.
-fn to_controller(r: Record, controller: &[u8; 4608], cdw10: u32, offset: u32) -> Record {
+fn to_controller(
+    rt: &impl Print,
+    r: Record,
+    controller: &[u8; 4608],
+    cdw10: u32,
+    offset: u32,
+) -> io::Result<Record> {
     send(
+        rt,
         r,
         &mut [0; 4608],
         controller,
@@ -154,81 +153,92 @@ fn to_controller(r: Record, controller: &[u8; 4608], cdw10: u32, offset: u32) ->
     )
 }
 
-fn capture(r: Record, controller: &mut [u8; 4608], a: [u32; 4]) -> Record {
-    let next = show(controller::capture(r, &[0; 4608], controller, a, &nine(), &[78; 128]));
-    letter(b'\n');
-    next
+fn capture(
+    rt: &impl Print,
+    r: Record,
+    controller: &mut [u8; 4608],
+    a: [u32; 4],
+) -> io::Result<Record> {
+    let x = controller::capture(r, &[0; 4608], controller, a, &nine(), &[78; 128]);
+    let next = show(rt, x)?;
+    println!(rt;)?;
+    Ok(next)
 }
 
-fn on_host() {
+fn on_host(rt: &impl Print) -> io::Result<()> {
     let mut host = [0; 4608];
-    say(b"07h: create with candidate (2,2,5,9) on a drive of three areas\n");
-    let r = to_host(fresh(false), &mut host, 0x00ff8107, 0);
-    say(
-        b"offset 2,560, 1,024 bytes; offset 3,072, 512 bytes; offset 3,584; offset 256; count 126; offset 2^32\n",
-    );
-    to_host(r, &mut host, 0x00ff8007, 2560);
-    to_host(r, &mut host, 0x007f8007, 3072);
-    to_host(r, &mut host, 0x007f8007, 3584);
-    to_host(r, &mut host, 0x007f8007, 256);
-    to_host(r, &mut host, 0x007e8007, 0);
-    send_words(r, &mut host, words(0x007f8007, 0, 1, 0));
-    say(b"offset type 1; RAE 0 on 07h; create bit on 08h\n");
-    send_words(r, &mut host, words(0x007f8007, 0, 0, 0x00800000));
-    to_host(r, &mut host, 0x007f0007, 512);
-    to_host(r, &mut host, 0x007f8108, 0);
-    say(b"identifiers 02h, 0Eh, 24h, C0h\n");
-    to_host(r, &mut host, 0x007f8002, 0);
-    to_host(r, &mut host, 0x007f800e, 0);
-    to_host(r, &mut host, 0x007f8024, 0);
-    to_host(r, &mut host, 0x007f80c0, 0);
+    println!(rt; "07h: create with candidate (2,2,5,9) on a drive of three areas")?;
+    let r = to_host(rt, fresh(false), &mut host, 0x00ff8107, 0)?;
+    println!(rt;
+        "offset 2,560, 1,024 bytes; offset 3,072, 512 bytes; offset 3,584; offset 256; count 126; offset 2^32"
+    )?;
+    to_host(rt, r, &mut host, 0x00ff8007, 2560)?;
+    to_host(rt, r, &mut host, 0x007f8007, 3072)?;
+    to_host(rt, r, &mut host, 0x007f8007, 3584)?;
+    to_host(rt, r, &mut host, 0x007f8007, 256)?;
+    to_host(rt, r, &mut host, 0x007e8007, 0)?;
+    send_words(rt, r, &mut host, words(0x007f8007, 0, 1, 0))?;
+    println!(rt; "offset type 1; RAE 0 on 07h; create bit on 08h")?;
+    send_words(rt, r, &mut host, words(0x007f8007, 0, 0, 0x00800000))?;
+    to_host(rt, r, &mut host, 0x007f0007, 512)?;
+    to_host(rt, r, &mut host, 0x007f8108, 0)?;
+    println!(rt; "identifiers 02h, 0Eh, 24h, C0h")?;
+    to_host(rt, r, &mut host, 0x007f8002, 0)?;
+    to_host(rt, r, &mut host, 0x007f800e, 0)?;
+    to_host(rt, r, &mut host, 0x007f8024, 0)?;
+    to_host(rt, r, &mut host, 0x007f80c0, 0)?;
+    Ok(())
 }
 
-fn orders() {
+fn orders(rt: &impl Print) -> io::Result<()> {
     let mut host = [0; 4608];
     let r = fresh(true);
-    say(
-        b"broken candidate with offset 256: 1; with offset 5,632: 5; whole candidate with offset 5,632: 1; 2,048 bytes: 3; MCDA 5: 1\n",
-    );
-    broken_to_host(r, &mut host, 0x007f8107, 256);
-    broken_to_host(r, &mut host, 0x007f8107, 5632);
-    to_host(r, &mut host, 0x007f8107, 5632);
-    to_host(r, &mut host, 0x01ff8107, 0);
-    to_host(r, &mut host, 0x007f8b07, 0);
-    say(b"offset 5,120, the new page's size, is served; MCDA 2 sizes it 1,536\n");
-    to_host(r, &mut host, 0x007f8107, 5120);
-    to_host(r, &mut host, 0x007f8507, 1536);
-    to_host(r, &mut host, 0x007f8507, 2048);
-    say(b"a scope of 3 disagrees, before the identifier is looked at\n");
+    println!(rt;
+        "broken candidate with offset 256: 1; with offset 5,632: 5; whole candidate with offset 5,632: 1; 2,048 bytes: 3; MCDA 5: 1"
+    )?;
+    broken_to_host(rt, r, &mut host, 0x007f8107, 256)?;
+    broken_to_host(rt, r, &mut host, 0x007f8107, 5632)?;
+    to_host(rt, r, &mut host, 0x007f8107, 5632)?;
+    to_host(rt, r, &mut host, 0x01ff8107, 0)?;
+    to_host(rt, r, &mut host, 0x007f8b07, 0)?;
+    println!(rt; "offset 5,120, the new page's size, is served; MCDA 2 sizes it 1,536")?;
+    to_host(rt, r, &mut host, 0x007f8107, 5120)?;
+    to_host(rt, r, &mut host, 0x007f8507, 1536)?;
+    to_host(rt, r, &mut host, 0x007f8507, 2048)?;
+    println!(rt; "a scope of 3 disagrees, before the identifier is looked at")?;
     let caps = r.caps;
     let identity = Identity {
         oui: 0,
         hostscope: 3,
         controllerscope: 1,
     };
-    to_host(records::fresh(caps, identity), &mut host, 0x007f8002, 0);
+    to_host(rt, records::fresh(caps, identity), &mut host, 0x007f8002, 0)?;
+    Ok(())
 }
 
-fn on_controller() {
+fn on_controller(rt: &impl Print) -> io::Result<()> {
     let mut controller = [0; 4608];
-    say(b"08h before any capture: the header; a capture; broken: a3 = 0, a2 > a3\n");
-    let r = to_controller(fresh(true), &controller, 0x007f8008, 0);
-    let r = capture(r, &mut controller, [2, 2, 5, 9]);
-    capture(r, &mut controller, [0, 0, 0, 0]);
-    capture(r, &mut controller, [2, 6, 5, 9]);
-    say(b"blocks 1 and 2 with RAE 1; a refused command with RAE 0; blocks 8 and 9 with RAE 0\n");
-    let r = to_controller(r, &controller, 0x00ff8008, 512);
-    let r = to_controller(r, &controller, 0x00ff0008, 256);
-    let r = to_controller(r, &controller, 0x00ff0008, 4096);
-    say(b"cleared: offset 512 gives zeros, offset 1,024 is 1\n");
-    let r = to_controller(r, &controller, 0x007f8008, 512);
-    let r = to_controller(r, &controller, 0x007f8008, 1024);
-    say(b"another capture\n");
-    capture(r, &mut controller, [2, 2, 5, 9]);
+    println!(rt; "08h before any capture: the header; a capture; broken: a3 = 0, a2 > a3")?;
+    let r = to_controller(rt, fresh(true), &controller, 0x007f8008, 0)?;
+    let r = capture(rt, r, &mut controller, [2, 2, 5, 9])?;
+    capture(rt, r, &mut controller, [0, 0, 0, 0])?;
+    capture(rt, r, &mut controller, [2, 6, 5, 9])?;
+    println!(rt;
+        "blocks 1 and 2 with RAE 1; a refused command with RAE 0; blocks 8 and 9 with RAE 0"
+    )?;
+    let r = to_controller(rt, r, &controller, 0x00ff8008, 512)?;
+    let r = to_controller(rt, r, &controller, 0x00ff0008, 256)?;
+    let r = to_controller(rt, r, &controller, 0x00ff0008, 4096)?;
+    println!(rt; "cleared: offset 512 gives zeros, offset 1,024 is 1")?;
+    let r = to_controller(rt, r, &controller, 0x007f8008, 512)?;
+    let r = to_controller(rt, r, &controller, 0x007f8008, 1024)?;
+    println!(rt; "another capture")?;
+    capture(rt, r, &mut controller, [2, 2, 5, 9])?;
+    Ok(())
 }
 
-fn main() {
-    on_host();
-    orders();
-    on_controller();
+fn main(rt: HostRuntime) -> io::Result<()> {
+    on_host(&rt)?;
+    orders(&rt)?;
+    on_controller(&rt)
 }

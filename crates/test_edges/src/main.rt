@@ -6,11 +6,11 @@
 
 use collection::{Collection, Next};
 use controller::Answered;
-use libc::STDOUT_FILENO;
 use pages::Caps;
 use phases::Phase;
 use plans::Plan;
 use records::{Identity, Record};
+use std::io;
 use words::{Command, Words};
 
 // The most commands of a run: what comes before this one never happens.
@@ -22,7 +22,7 @@ const CREATE: u32 = 0x007f8107;
 const ACKNOWLEDGE: u32 = 0x007f0008;
 
 // What a capture takes: area 1 ends at block `area`, all others at `page`, filled from `v` on.
-#[derive(Drop)]
+#[derive(Clone, Copy)]
 struct Content {
     area: u32,
     page: u32,
@@ -30,7 +30,7 @@ struct Content {
 }
 
 // What is collected, and what happens meanwhile. Commands are counted from 0.
-#[derive(Drop)]
+#[derive(Clone, Copy)]
 struct Case {
     page: u8,
     // At first the page is captured once, or not at all: area 1 ends at `blocks`, all others at `top`.
@@ -62,22 +62,6 @@ struct Bench {
     own: Record,
     state: Collection,
     answer: u8,
-}
-
-fn say(text: &[u8]) {
-    io::write_all(STDOUT_FILENO, text);
-}
-
-fn letter(c: u8) {
-    say(&[c]);
-}
-
-fn decimal(n: u64) {
-    io::print_decimal(STDOUT_FILENO, n);
-}
-
-fn byte(b: u8) {
-    decimal(b as u64);
 }
 
 // Extended data or none: without it a plan has no blocks a command.
@@ -255,17 +239,13 @@ fn meanwhile(case: Case, at: u32, phase: Phase, r: Record, store: &mut [u8; 2560
 
 // ---- a command of the run
 
-fn name(phase: Phase) {
-    letter(b' ');
+fn name(rt: &impl Print, phase: Phase) -> io::Result<()> {
     match phase {
-        Phase::First => letter(b'H'),
-        Phase::Chunk(at) => {
-            letter(b'c');
-            decimal(at as u64);
-        }
-        Phase::Close(_) => letter(b'h'),
-        Phase::Ack => letter(b'A'),
-        Phase::Ended => (),
+        Phase::First => print!(rt; " H"),
+        Phase::Chunk(at) => print!(rt; " c{at}"),
+        Phase::Close(_) => print!(rt; " h"),
+        Phase::Ack => print!(rt; " A"),
+        Phase::Ended => print!(rt; " "),
     }
 }
 
@@ -279,54 +259,57 @@ fn keep_area(asked: Command, r: Record, store: &[u8], want: &mut [u8]) {
     }
 }
 
-fn column(n: u64) {
-    say(b" | ");
-    decimal(n);
-}
-
 // What the step said: the answer of an ending, 254 for a refused step, or 255 while the run goes on.
-fn said(next: Next) -> u8 {
+fn said(rt: &impl Print, next: Next) -> io::Result<u8> {
     match next {
-        Next::Send(_) => 255,
+        Next::Send(_) => Ok(255),
         Next::End(e) => {
             let ending = e.ending;
             let answer = endings::number(ending);
-            column(answer as u64);
+            print!(rt; " | {answer}")?;
             if endings::newer(ending) {
-                say(b" newer");
+                print!(rt; " newer")?;
             }
-            column(e.count);
-            answer
+            print!(rt; " | {}", e.count)?;
+            Ok(answer)
         }
-        Next::Refuse(_) => 254,
+        Next::Refuse(_) => Ok(254),
     }
 }
 
 // How many bytes a completion brings: all that were asked for, or none, and a !, where the controller refused.
-fn brought(answer: u8, bytes: usize) -> usize {
+fn brought(rt: &impl Print, answer: u8, bytes: usize) -> io::Result<usize> {
     if answer == 0 {
-        return bytes;
+        return Ok(bytes);
     }
-    letter(b'!');
-    0
+    print!(rt; "!")?;
+    Ok(0)
 }
 
-fn complete(own: Record, state: Collection, ok: bool, data: &[u8], copy: &mut [u8]) -> Bench {
+fn complete(
+    rt: &impl Print,
+    own: Record,
+    state: Collection,
+    ok: bool,
+    data: &[u8],
+    copy: &mut [u8],
+) -> io::Result<Bench> {
     let x = state.step(ok, data, copy);
     let next = x.next;
     let state = x.state;
-    let answer = said(next);
-    Bench { own, state, answer }
+    let answer = said(rt, next)?;
+    Ok(Bench { own, state, answer })
 }
 
 // The awaited command goes to the controller and its completion to the collection.
 fn sent(
+    rt: &impl Print,
     own: Record,
     state: Collection,
     store: &mut [u8; 2560],
     copy: &mut [u8; 2048],
     want: &mut [u8; 2048],
-) -> Bench {
+) -> io::Result<Bench> {
     let words = state.awaited();
     let plan = state.plan;
     let caps = plan.caps;
@@ -334,68 +317,69 @@ fn sent(
     let mut buf = [0u8; 2560];
     keep_area(asked, own, store, want);
     let x = send(own, store, [0; 4], b"", words, &mut buf);
-    let bytes = brought(x.answer, asked.bytes);
-    complete(x.own, state, x.answer == 0, front(&buf, bytes), copy)
+    let bytes = brought(rt, x.answer, asked.bytes)?;
+    complete(rt, x.own, state, x.answer == 0, front(&buf, bytes), copy)
 }
 
 // A command with what happens before it.
 fn turn(
+    rt: &impl Print,
     case: Case,
     at: u32,
     b: Bench,
     store: &mut [u8; 2560],
     copy: &mut [u8; 2048],
     want: &mut [u8; 2048],
-) -> Bench {
+) -> io::Result<Bench> {
     let state = b.state;
     let phase = state.phase;
     if case.named {
-        name(phase);
+        name(rt, phase)?;
     }
     let own = meanwhile(case, at, phase, b.own, store);
-    sent(own, state, store, copy, want)
+    sent(rt, own, state, store, copy, want)
 }
 
 // The commands of a run, up to its ending, and the ending's answer.
 fn turns(
+    rt: &impl Print,
     case: Case,
     start: Bench,
     store: &mut [u8; 2560],
     copy: &mut [u8; 2048],
     want: &mut [u8; 2048],
-) -> u8 {
+) -> io::Result<u8> {
     let mut b = start;
     for at in 0..NEVER {
         if b.answer != 255 {
-            return b.answer;
+            return Ok(b.answer);
         }
-        b = turn(case, at, b, store, copy, want);
+        b = turn(rt, case, at, b, store, copy, want)?;
     }
-    b.answer
+    Ok(b.answer)
 }
 
 // What the first two blocks of a copy begin with.
-fn begins(copy: &[u8; 2048]) {
-    say(b" | not the area but blocks that begin with ");
-    byte(copy[0]);
-    say(b" and ");
-    byte(copy[512]);
-    letter(b'\n');
+fn begins(rt: &impl Print, copy: &[u8; 2048]) -> io::Result<()> {
+    println!(rt;
+        " | not the area but blocks that begin with {} and {}",
+        copy[0], copy[512]
+    )
 }
 
 // The end of a line: whether the copy is what the ending promises.
-fn end(answer: u8, copy: &[u8; 2048], want: &[u8; 2048]) {
+fn end(rt: &impl Print, answer: u8, copy: &[u8; 2048], want: &[u8; 2048]) -> io::Result<()> {
     if answer == 0 {
-        if check::same(copy, want) {
-            say(b" | the area, then zeros\n");
+        if copy.as_slice() == want.as_slice() {
+            println!(rt; " | the area, then zeros")
         } else {
-            begins(copy);
+            begins(rt, copy)
         }
     } else {
-        if check::same(copy, &[0u8; 2048]) {
-            say(b" | zeros\n");
+        if copy.as_slice() == [0u8; 2048].as_slice() {
+            println!(rt; " | zeros")
         } else {
-            say(b" | not zeros\n");
+            println!(rt; " | not zeros")
         }
     }
 }
@@ -416,14 +400,14 @@ fn begin(case: Case, store: &mut [u8; 2560]) -> Bench {
     }
 }
 
-fn run(label: &[u8], case: Case) {
+fn run(rt: &impl Print, label: &str, case: Case) -> io::Result<()> {
     let mut store = [0u8; 2560];
     let mut copy = [9u8; 2048];
     let mut want = [7u8; 2048];
-    say(label);
+    print!(rt; "{label}")?;
     let b = begin(case, &mut store);
-    let answer = turns(case, b, &mut store, &mut copy, &mut want);
-    end(answer, &copy, &want);
+    let answer = turns(rt, case, b, &mut store, &mut copy, &mut want)?;
+    end(rt, answer, &copy, &want)
 }
 
 // ---- the runs
@@ -450,186 +434,233 @@ fn calm(page: u8, blocks: u32, chunk: u32, attempts: u32) -> Case {
 }
 
 // 07h at a generation, a block a command, with a capture before a command.
-fn host(label: &[u8], generation: u8, blocks: u32, captured: u32, then: u32) {
+fn host(
+    rt: &impl Print,
+    label: &str,
+    generation: u8,
+    blocks: u32,
+    captured: u32,
+    then: u32,
+) -> io::Result<()> {
     let mut c = calm(pages::HOST, blocks, 1, 2);
     c.generation = generation;
     c.captured = captured;
     c.then = then;
-    run(label, c);
+    run(rt, label, c)
 }
 
 // 08h in one attempt, acknowledged by another host before a command.
-fn acknowledged(label: &[u8], blocks: u32, chunk: u32, cleared: u32) {
+fn acknowledged(
+    rt: &impl Print,
+    label: &str,
+    blocks: u32,
+    chunk: u32,
+    cleared: u32,
+) -> io::Result<()> {
     let mut c = calm(pages::CONTROLLER, blocks, chunk, 1);
     c.cleared = cleared;
-    run(label, c);
+    run(rt, label, c)
 }
 
 // 08h at a generation, a block a command, acknowledged by another host before a command and captured before one.
-fn controller(label: &[u8], generation: u8, blocks: u32, cleared: u32, captured: u32) {
+fn controller(
+    rt: &impl Print,
+    label: &str,
+    generation: u8,
+    blocks: u32,
+    cleared: u32,
+    captured: u32,
+) -> io::Result<()> {
     let mut c = calm(pages::CONTROLLER, blocks, 1, 2);
     c.generation = generation;
     c.cleared = cleared;
     c.captured = captured;
-    run(label, c);
+    run(rt, label, c)
 }
 
-fn calm_runs() {
-    run(b"07h, 3 blocks, 2 a command:", calm(pages::HOST, 3, 2, 1));
-    run(b"07h, no block:", calm(pages::HOST, 0, 2, 1));
+fn calm_runs(rt: &impl Print) -> io::Result<()> {
+    run(
+        rt,
+        "07h, 3 blocks, 2 a command:",
+        calm(pages::HOST, 3, 2, 1),
+    )?;
+    run(rt, "07h, no block:", calm(pages::HOST, 0, 2, 1))?;
     let mut c = calm(pages::CONTROLLER, 0, 1, 1);
     c.top = 3;
-    run(b"08h, no block in area 1:", c);
+    run(rt, "08h, no block in area 1:", c)?;
     c.once = 0;
-    run(b"08h never captured:", c);
+    run(rt, "08h never captured:", c)
 }
 
 // Without extended data: c1 reads the header and all blocks.
-fn old_runs() {
-    run(b"old drive, 07h, 4 blocks:", calm(pages::HOST, 4, 0, 1));
-    run(b"old drive, 07h, no block:", calm(pages::HOST, 0, 0, 1));
+fn old_runs(rt: &impl Print) -> io::Result<()> {
+    run(rt, "old drive, 07h, 4 blocks:", calm(pages::HOST, 4, 0, 1))?;
+    run(rt, "old drive, 07h, no block:", calm(pages::HOST, 0, 0, 1))?;
     run(
-        b"old drive, 08h, 3 blocks:",
+        rt,
+        "old drive, 08h, 3 blocks:",
         calm(pages::CONTROLLER, 3, 0, 1),
-    );
+    )?;
     let mut c = calm(pages::HOST, 1, 0, 2);
     c.captured = 1;
     c.then = 4;
-    run(b"old drive, 07h grows from 1 to 4:", c);
+    run(rt, "old drive, 07h grows from 1 to 4:", c)?;
     c.then = 5;
-    run(b"old drive, 07h grows from 1 to 5, room for 4:", c);
+    run(rt, "old drive, 07h grows from 1 to 5, room for 4:", c)?;
     let mut d = calm(pages::HOST, 2, 0, 2);
     d.dropped = 1;
-    run(b"old drive, 07h dropped before its only chunk:", d);
+    run(rt, "old drive, 07h dropped before its only chunk:", d)?;
     let mut e = calm(pages::CONTROLLER, 2, 0, 2);
     e.cleared = 1;
-    run(b"old drive, 08h cleared after the header:", e);
+    run(rt, "old drive, 08h cleared after the header:", e)?;
     e.captured = 2;
-    run(b"old drive, 08h cleared and captured again:", e);
+    run(rt, "old drive, 08h cleared and captured again:", e)
 }
 
-fn host_runs() {
-    host(b"07h grows from 1 to 5, room for 4:", 0, 1, 1, 5);
-    host(b"07h grows from 1 to 4:", 0, 1, 1, 4);
+fn host_runs(rt: &impl Print) -> io::Result<()> {
+    host(rt, "07h grows from 1 to 5, room for 4:", 0, 1, 1, 5)?;
+    host(rt, "07h grows from 1 to 4:", 0, 1, 1, 4)?;
     host(
-        b"07h shrinks from 4 to 1 after a chunk, generation 255 to 0:",
+        rt,
+        "07h shrinks from 4 to 1 after a chunk, generation 255 to 0:",
         255,
         4,
         2,
         1,
-    );
-    host(b"07h shrinks from 4 to 0:", 0, 4, 1, 0);
+    )?;
+    host(rt, "07h shrinks from 4 to 0:", 0, 4, 1, 0)?;
     let mut c = calm(pages::HOST, 3, 2, 3);
     c.captured = 3;
     c.again = 6;
     c.then = 3;
-    run(b"07h captured before each of two closing headers:", c);
+    run(rt, "07h captured before each of two closing headers:", c)
 }
 
 // 07h, dropped before a command.
-fn emptied(label: &[u8], case: Case, dropped: u32) {
+fn emptied(rt: &impl Print, label: &str, case: Case, dropped: u32) -> io::Result<()> {
     let mut c = case;
     c.dropped = dropped;
-    run(label, c);
+    run(rt, label, c)
 }
 
-fn drop_runs() {
+fn drop_runs(rt: &impl Print) -> io::Result<()> {
     let two = calm(pages::HOST, 2, 1, 2);
-    emptied(b"07h dropped before the first chunk:", two, 1);
+    emptied(rt, "07h dropped before the first chunk:", two, 1)?;
     emptied(
-        b"07h dropped before its only chunk:",
+        rt,
+        "07h dropped before its only chunk:",
         calm(pages::HOST, 2, 2, 2),
         1,
-    );
-    emptied(b"07h dropped after the last chunk:", two, 3);
-    emptied(b"07h dropped, one attempt:", calm(pages::HOST, 2, 1, 1), 1);
+    )?;
+    emptied(rt, "07h dropped after the last chunk:", two, 3)?;
+    emptied(
+        rt,
+        "07h dropped, one attempt:",
+        calm(pages::HOST, 2, 1, 1),
+        1,
+    )?;
     let mut c = calm(pages::HOST, 0, 1, 2);
-    emptied(b"07h dropped, empty already:", c, 1);
+    emptied(rt, "07h dropped, empty already:", c, 1)?;
     c.top = 3;
-    emptied(b"07h dropped, no block in area 1:", c, 1);
+    emptied(rt, "07h dropped, no block in area 1:", c, 1)?;
     let mut d = two;
     d.captured = 1;
-    emptied(b"07h dropped and captured again with the same areas:", d, 1);
+    emptied(
+        rt,
+        "07h dropped and captured again with the same areas:",
+        d,
+        1,
+    )
 }
 
-fn controller_runs() {
-    acknowledged(b"08h cleared after the header:", 3, 1, 1);
-    acknowledged(b"08h cleared, one chunk:", 4, 4, 1);
+fn controller_runs(rt: &impl Print) -> io::Result<()> {
+    acknowledged(rt, "08h cleared after the header:", 3, 1, 1)?;
+    acknowledged(rt, "08h cleared, one chunk:", 4, 4, 1)?;
     controller(
-        b"08h cleared and captured again, generation 255 to 0:",
+        rt,
+        "08h cleared and captured again, generation 255 to 0:",
         255,
         3,
         4,
         4,
-    );
-    controller(b"08h cleared, a chunk refused, then captured:", 0, 3, 1, 3);
+    )?;
+    controller(
+        rt,
+        "08h cleared, a chunk refused, then captured:",
+        0,
+        3,
+        1,
+        3,
+    )
 }
 
 // What happens after the last check, before the acknowledgement.
-fn late_runs() {
-    controller(b"08h captured after the last check:", 0, 1, NEVER, 3);
+fn late_runs(rt: &impl Print) -> io::Result<()> {
+    controller(rt, "08h captured after the last check:", 0, 1, NEVER, 3)?;
     acknowledged(
-        b"08h acknowledged by another after the last check:",
+        rt,
+        "08h acknowledged by another after the last check:",
         1,
         1,
         3,
-    );
+    )?;
     controller(
-        b"08h acknowledged and captured after the last check:",
+        rt,
+        "08h acknowledged and captured after the last check:",
         0,
         1,
         3,
         3,
-    );
+    )
 }
 
 // Many captures in one attempt of 07h, and drops among them.
-fn crowded_runs() {
+fn crowded_runs(rt: &impl Print) -> io::Result<()> {
     let mut c = calm(pages::HOST, 2, 1, 301);
     c.captured = 2;
     c.times = 255;
-    run(b"07h, 255 captures in one attempt:", c);
-    emptied(b"07h, a drop and 255 captures in one attempt:", c, 2);
-    emptied(b"07h, 255 captures and a drop in one attempt:", c, 3);
+    run(rt, "07h, 255 captures in one attempt:", c)?;
+    emptied(rt, "07h, a drop and 255 captures in one attempt:", c, 2)?;
+    emptied(rt, "07h, 255 captures and a drop in one attempt:", c, 3)?;
     c.times = 256;
-    run(b"07h, 256 captures in one attempt:", c);
-    emptied(b"07h, 256 captures and a drop in one attempt:", c, 3);
+    run(rt, "07h, 256 captures in one attempt:", c)?;
+    emptied(rt, "07h, 256 captures and a drop in one attempt:", c, 3)?;
     c.then = 3;
-    run(b"07h, 256 captures of another size in one attempt:", c);
+    run(rt, "07h, 256 captures of another size in one attempt:", c)
 }
 
 // 08h of one block, captured so many times between the last check and the acknowledgement.
-fn unread(label: &[u8], times: u32) {
+fn unread(rt: &impl Print, label: &str, times: u32) -> io::Result<()> {
     let mut c = calm(pages::CONTROLLER, 1, 1, 301);
     c.then = 1;
     c.captured = 3;
     c.times = times;
-    run(label, c);
+    run(rt, label, c)
 }
 
 // More captures in a run than a generation counts.
-fn many_runs() {
+fn many_runs(rt: &impl Print) -> io::Result<()> {
     let mut c = calm(pages::HOST, 2, 1, 301);
     c.captured = 3;
     c.again = 6;
     c.times = 150;
-    run(b"07h, 150 captures in each of two attempts:", c);
-    unread(b"08h, 256 captures after the last check:", 256);
-    unread(b"08h, 257 captures after the last check:", 257);
+    run(rt, "07h, 150 captures in each of two attempts:", c)?;
+    unread(rt, "08h, 256 captures after the last check:", 256)?;
+    unread(rt, "08h, 257 captures after the last check:", 257)?;
     let mut d = calm(pages::HOST, 1, 1, 65535);
     d.then = 1;
     d.busy = true;
     d.named = false;
-    run(b"07h, a capture in each of 65,535 attempts:", d);
+    run(rt, "07h, a capture in each of 65,535 attempts:", d)
 }
 
-fn main() {
-    calm_runs();
-    host_runs();
-    drop_runs();
-    controller_runs();
-    late_runs();
-    crowded_runs();
-    old_runs();
-    many_runs();
+fn main(rt: HostRuntime) -> io::Result<()> {
+    calm_runs(&rt)?;
+    host_runs(&rt)?;
+    drop_runs(&rt)?;
+    controller_runs(&rt)?;
+    late_runs(&rt)?;
+    crowded_runs(&rt)?;
+    old_runs(&rt)?;
+    many_runs(&rt)
 }

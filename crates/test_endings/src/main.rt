@@ -5,28 +5,16 @@
 
 use collection::{Collection, Next, Stepped};
 use header::{Fault, Fields};
-use libc::STDOUT_FILENO;
 use pages::Caps;
 use phases::{Attempt, Phase};
 use plans::Plan;
+use std::io;
 
 // What a command comes back with: a refusal, or a header with its page, the last block of area 1, TCDA and the generation.
 #[derive(Drop)]
 enum Completion {
     Refused,
     Header(u8, u32, u8, u8),
-}
-
-fn say(text: &[u8]) {
-    io::write_all(STDOUT_FILENO, text);
-}
-
-fn letter(c: u8) {
-    say(&[c]);
-}
-
-fn decimal(n: u64) {
-    io::print_decimal(STDOUT_FILENO, n);
 }
 
 // A page's area 1 in chunks of two blocks, into a copy of four.
@@ -71,70 +59,71 @@ fn three_blocks() -> [u8; 2048] {
     wanted
 }
 
-fn copy_is(copy: &[u8]) {
-    if check::same(copy, &[0u8; 2048]) {
-        say(b"zeros");
-    } else if check::same(copy, &three_blocks()) {
-        say(b"three blocks, then zeros");
-    } else if check::same(copy, &[9u8; 2048]) {
-        say(b"unchanged");
+fn copy_is(rt: &impl Print, copy: &[u8]) -> io::Result<()> {
+    if copy == [0u8; 2048].as_slice() {
+        print!(rt; "zeros")
+    } else if copy == three_blocks().as_slice() {
+        print!(rt; "three blocks, then zeros")
+    } else if copy == [9u8; 2048].as_slice() {
+        print!(rt; "unchanged")
     } else {
-        say(b"part of the area, the rest unchanged");
+        print!(rt; "part of the area, the rest unchanged")
     }
 }
 
 // What is at fault in a header, if anything is.
-fn show_fault(fault: Fault) {
+fn show_fault(rt: &impl Print, fault: Fault) -> io::Result<()> {
     match fault {
-        Fault::None => (),
-        Fault::Length => say(b" length"),
-        Fault::Identifier => say(b" identifier"),
-        Fault::Area2 => say(b" area 2"),
-        Fault::Area3 => say(b" area 3"),
-        Fault::Area4 => say(b" area 4"),
-        Fault::Scope => say(b" scope"),
-        Fault::Available => say(b" TCDA"),
-        Fault::Empty => say(b" available but empty"),
+        Fault::None => Ok(()),
+        Fault::Length => print!(rt; " length"),
+        Fault::Identifier => print!(rt; " identifier"),
+        Fault::Area2 => print!(rt; " area 2"),
+        Fault::Area3 => print!(rt; " area 3"),
+        Fault::Area4 => print!(rt; " area 4"),
+        Fault::Scope => print!(rt; " scope"),
+        Fault::Available => print!(rt; " TCDA"),
+        Fault::Empty => print!(rt; " available but empty"),
     }
 }
 
-fn show_next(next: Next) {
+fn show_next(rt: &impl Print, next: Next) -> io::Result<()> {
     match next {
-        Next::Send(_) => say(b"sent"),
+        Next::Send(_) => print!(rt; "sent"),
         Next::End(e) => {
             let ending = e.ending;
-            say(b"ended ");
-            decimal(endings::number(ending) as u64);
-            show_fault(endings::fault(ending));
+            print!(rt; "ended {}", endings::number(ending))?;
+            show_fault(rt, endings::fault(ending))?;
             if endings::newer(ending) {
-                say(b" newer");
+                print!(rt; " newer")?;
             }
-            say(b", commands ");
-            decimal(e.count);
+            print!(rt; ", commands {}", e.count)
         }
-        Next::Refuse(answer) => {
-            say(b"refused ");
-            decimal(answer as u64);
-        }
+        Next::Refuse(answer) => print!(rt; "refused {answer}"),
     }
 }
 
 // What followed, and the copy; then the state.
-fn show(label: &[u8], x: Stepped, copy: &[u8]) -> Collection {
+fn show(rt: &impl Print, label: &str, x: Stepped, copy: &[u8]) -> io::Result<Collection> {
     let next = x.next;
-    say(label);
-    say(b": ");
-    show_next(next);
-    say(b", copy ");
-    copy_is(copy);
-    letter(b'\n');
-    x.state
+    print!(rt; "{label}: ")?;
+    show_next(rt, next)?;
+    print!(rt; ", copy ")?;
+    copy_is(rt, copy)?;
+    println!(rt;)?;
+    Ok(x.state)
 }
 
 // One step, shown with the copy after it.
-fn tried(label: &[u8], s: Collection, ok: bool, data: &[u8], copy: &mut [u8]) -> Collection {
+fn tried(
+    rt: &impl Print,
+    label: &str,
+    s: Collection,
+    ok: bool,
+    data: &[u8],
+    copy: &mut [u8],
+) -> io::Result<Collection> {
     let x = s.step(ok, data, copy);
-    show(label, x, copy)
+    show(rt, label, x, copy)
 }
 
 fn began(p: Plan) -> Collection {
@@ -148,15 +137,29 @@ fn stepped(s: Collection, ok: bool, data: &[u8], copy: &mut [u8]) -> Collection 
 }
 
 // One step by a completion of a header, shown with the copy after it.
-fn completed(label: &[u8], s: Collection, c: Completion, copy: &mut [u8]) {
+fn completed(
+    rt: &impl Print,
+    label: &str,
+    s: Collection,
+    c: Completion,
+    copy: &mut [u8],
+) -> io::Result<()> {
     match c {
         Completion::Refused => {
-            tried(label, s, false, b"", copy);
+            tried(rt, label, s, false, b"", copy)?;
         }
         Completion::Header(page, b, tcda, generation) => {
-            tried(label, s, true, &heading(page, b, tcda, generation), copy);
+            tried(
+                rt,
+                label,
+                s,
+                true,
+                &heading(page, b, tcda, generation),
+                copy,
+            )?;
         }
     }
+    Ok(())
 }
 
 // The state that awaits the last chunk of an area of three blocks, generation 5.
@@ -171,204 +174,231 @@ fn collected(p: Plan, copy: &mut [u8]) -> Collection {
     stepped(opened(p, copy), true, &[2u8; 512], copy)
 }
 
-fn setup(label: &[u8], p: Plan) {
+fn setup(rt: &impl Print, label: &str, p: Plan) -> io::Result<()> {
     let x = beginnings::setup(p);
     let next = x.next;
-    say(label);
-    say(b": ");
-    show_next(next);
-    letter(b'\n');
+    print!(rt; "{label}: ")?;
+    show_next(rt, next)?;
+    println!(rt;)
 }
 
-fn setups() {
+fn setups(rt: &impl Print) -> io::Result<()> {
     let mut p = plan(0x08, 2);
-    setup(b"taken", p);
+    setup(rt, "taken", p)?;
     p.area = 4;
-    setup(b"area 4 without DA4S", p);
+    setup(rt, "area 4 without DA4S", p)?;
     p.attempts = 65536;
-    setup(b"the same with 65,536 attempts", p);
-    setup(b"65,536 attempts", plan(0x07, 65536));
-    setup(b"65,535 attempts", plan(0x07, 65535));
-    setup(b"no attempt", plan(0x07, 0));
+    setup(rt, "the same with 65,536 attempts", p)?;
+    setup(rt, "65,536 attempts", plan(0x07, 65536))?;
+    setup(rt, "65,535 attempts", plan(0x07, 65535))?;
+    setup(rt, "no attempt", plan(0x07, 0))?;
     let mut q = plan(0x07, 2);
     q.room = 0;
-    setup(b"a copy of no bytes", q);
+    setup(rt, "a copy of no bytes", q)
 }
 
-fn first(label: &[u8], c: Completion) {
+fn first(rt: &impl Print, label: &str, c: Completion) -> io::Result<()> {
     let mut copy = [9u8; 2048];
-    completed(label, began(plan(0x08, 2)), c, &mut copy);
+    completed(rt, label, began(plan(0x08, 2)), c, &mut copy)
 }
 
-fn firsts() {
-    first(b"first header refused", Completion::Refused);
+fn firsts(rt: &impl Print) -> io::Result<()> {
+    first(rt, "first header refused", Completion::Refused)?;
     first(
-        b"of another page and TCDA 0",
+        rt,
+        "of another page and TCDA 0",
         Completion::Header(0x07, 5, 0, 5),
-    );
+    )?;
     first(
-        b"area 1 past area 2, TCDA 2",
+        rt,
+        "area 1 past area 2, TCDA 2",
         Completion::Header(0x08, 10, 2, 5),
-    );
-    first(b"five blocks, TCDA 2", Completion::Header(0x08, 5, 2, 5));
-    first(b"TCDA 0 and five blocks", Completion::Header(0x08, 5, 0, 5));
-    first(b"five blocks", Completion::Header(0x08, 5, 1, 5));
-    first(b"four blocks", Completion::Header(0x08, 4, 1, 5));
+    )?;
+    first(rt, "five blocks, TCDA 2", Completion::Header(0x08, 5, 2, 5))?;
+    first(
+        rt,
+        "TCDA 0 and five blocks",
+        Completion::Header(0x08, 5, 0, 5),
+    )?;
+    first(rt, "five blocks", Completion::Header(0x08, 5, 1, 5))?;
+    first(rt, "four blocks", Completion::Header(0x08, 4, 1, 5))
 }
 
-fn closing(label: &[u8], page: u8, attempts: u32, c: Completion) {
+fn closing(rt: &impl Print, label: &str, page: u8, attempts: u32, c: Completion) -> io::Result<()> {
     let mut copy = [9u8; 2048];
     let s = collected(plan(page, attempts), &mut copy);
-    completed(label, s, c, &mut copy);
+    completed(rt, label, s, c, &mut copy)
 }
 
 // The same after a refused chunk.
-fn closing_broken(label: &[u8], c: Completion) {
+fn closing_broken(rt: &impl Print, label: &str, c: Completion) -> io::Result<()> {
     let mut copy = [9u8; 2048];
     let s = opened(plan(0x08, 2), &mut copy);
     let t = stepped(s, false, b"", &mut copy);
-    completed(label, t, c, &mut copy);
+    completed(rt, label, t, c, &mut copy)
 }
 
-fn closings() {
+fn closings(rt: &impl Print) -> io::Result<()> {
     closing(
-        b"closing header on 07h",
+        rt,
+        "closing header on 07h",
         0x07,
         1,
         Completion::Header(0x07, 3, 0, 5),
-    );
-    closing(b"closing header refused", 0x08, 2, Completion::Refused);
+    )?;
+    closing(rt, "closing header refused", 0x08, 2, Completion::Refused)?;
     closing(
-        b"of another page and TCDA 0",
+        rt,
+        "of another page and TCDA 0",
         0x08,
         2,
         Completion::Header(0x07, 3, 0, 5),
-    );
+    )?;
     closing(
-        b"TCDA 0 and the last attempt's mismatch",
+        rt,
+        "TCDA 0 and the last attempt's mismatch",
         0x08,
         1,
         Completion::Header(0x08, 3, 0, 6),
-    );
+    )?;
+    Ok(())
 }
 
 // A later header at fault, with the attempt's generation and without.
-fn bad_closings() {
+fn bad_closings(rt: &impl Print) -> io::Result<()> {
     closing(
-        b"TCDA 2 on 07h, else a match",
+        rt,
+        "TCDA 2 on 07h, else a match",
         0x07,
         1,
         Completion::Header(0x07, 3, 2, 5),
-    );
+    )?;
     closing(
-        b"area 1 past area 2, the last attempt's mismatch",
+        rt,
+        "area 1 past area 2, the last attempt's mismatch",
         0x08,
         1,
         Completion::Header(0x08, 10, 1, 6),
-    );
+    )?;
     closing_broken(
-        b"TCDA 2 after a refused chunk",
+        rt,
+        "TCDA 2 after a refused chunk",
         Completion::Header(0x08, 3, 2, 5),
-    );
+    )?;
+    Ok(())
 }
 
-fn matches() {
+fn matches(rt: &impl Print) -> io::Result<()> {
     closing(
-        b"the last attempt's mismatch, five blocks",
+        rt,
+        "the last attempt's mismatch, five blocks",
         0x08,
         1,
         Completion::Header(0x08, 5, 1, 6),
-    );
+    )?;
     closing(
-        b"a mismatch, five blocks",
+        rt,
+        "a mismatch, five blocks",
         0x08,
         2,
         Completion::Header(0x08, 5, 1, 6),
-    );
+    )?;
     closing(
-        b"a mismatch, four blocks",
+        rt,
+        "a mismatch, four blocks",
         0x08,
         2,
         Completion::Header(0x08, 4, 1, 6),
-    );
-    closing(b"a match", 0x08, 2, Completion::Header(0x08, 3, 1, 5));
+    )?;
+    closing(rt, "a match", 0x08, 2, Completion::Header(0x08, 3, 1, 5))?;
     closing_broken(
-        b"a match after a refused chunk",
+        rt,
+        "a match after a refused chunk",
         Completion::Header(0x08, 3, 1, 5),
-    );
+    )?;
     closing_broken(
-        b"a mismatch after a refused chunk",
+        rt,
+        "a mismatch after a refused chunk",
         Completion::Header(0x08, 3, 1, 6),
-    );
+    )?;
+    Ok(())
 }
 
 // The attempt's generation and other last blocks are a mismatch.
-fn other_blocks() {
+fn other_blocks(rt: &impl Print) -> io::Result<()> {
     closing(
-        b"its generation and five blocks",
+        rt,
+        "its generation and five blocks",
         0x08,
         2,
         Completion::Header(0x08, 5, 1, 5),
-    );
+    )?;
     closing(
-        b"its generation and four blocks",
+        rt,
+        "its generation and four blocks",
         0x08,
         2,
         Completion::Header(0x08, 4, 1, 5),
-    );
+    )?;
     closing(
-        b"its generation and no blocks on 07h, the last attempt",
+        rt,
+        "its generation and no blocks on 07h, the last attempt",
         0x07,
         1,
         Completion::Header(0x07, 0, 0, 5),
-    );
+    )?;
     closing_broken(
-        b"its generation and four blocks after a refused chunk",
+        rt,
+        "its generation and four blocks after a refused chunk",
         Completion::Header(0x08, 4, 1, 5),
-    );
+    )?;
+    Ok(())
 }
 
-fn acknowledged(label: &[u8], c: Completion) {
+fn acknowledged(rt: &impl Print, label: &str, c: Completion) -> io::Result<()> {
     let mut copy = [9u8; 2048];
     let s = collected(plan(0x08, 2), &mut copy);
     let t = stepped(s, true, &heading(0x08, 3, 1, 5), &mut copy);
-    completed(label, t, c, &mut copy);
+    completed(rt, label, t, c, &mut copy)
 }
 
-fn acknowledgements() {
-    acknowledged(b"acknowledged", Completion::Header(0x08, 3, 1, 5));
+fn acknowledgements(rt: &impl Print) -> io::Result<()> {
+    acknowledged(rt, "acknowledged", Completion::Header(0x08, 3, 1, 5))?;
     acknowledged(
-        b"acknowledged, another page's bad header",
+        rt,
+        "acknowledged, another page's bad header",
         Completion::Header(0x07, 5, 0, 5),
-    );
+    )?;
     acknowledged(
-        b"acknowledged, a newer generation",
+        rt,
+        "acknowledged, a newer generation",
         Completion::Header(0x08, 3, 1, 6),
-    );
-    acknowledged(b"acknowledgement refused", Completion::Refused);
+    )?;
+    acknowledged(rt, "acknowledgement refused", Completion::Refused)
 }
 
 // A step that is lent another copy than the setup's, which stays.
-fn lent_short(s: Collection, head: &[u8], copy: &[u8]) -> Collection {
+fn lent_short(rt: &impl Print, s: Collection, head: &[u8], copy: &[u8]) -> io::Result<Collection> {
     let mut short = [9u8; 1536];
     let x = s.step(true, head, &mut short);
-    show(b"a shorter copy", x, copy)
+    show(rt, "a shorter copy", x, copy)
 }
 
 // Data of a wrong length, and data with a refusal.
-fn lent_wrong(head: &[u8], copy: &mut [u8]) -> Collection {
+fn lent_wrong(rt: &impl Print, head: &[u8], copy: &mut [u8]) -> io::Result<Collection> {
     let a = began(plan(0x08, 2));
-    let b = tried(b"511 bytes of a header", a, true, &[8u8; 511], copy);
-    tried(b"a refusal with data", b, false, head, copy)
+    let b = tried(rt, "511 bytes of a header", a, true, &[8u8; 511], copy)?;
+    tried(rt, "a refusal with data", b, false, head, copy)
 }
 
 // 15 leaves the state: the step after it goes on as if it had not been.
-fn unfit() {
+fn unfit(rt: &impl Print) -> io::Result<()> {
     let mut copy = [9u8; 2048];
     let head = heading(0x08, 3, 1, 5);
-    let a = lent_wrong(&head, &mut copy);
-    let b = lent_short(a, &head, &copy);
-    tried(b"then the header", b, true, &head, &mut copy);
+    let a = lent_wrong(rt, &head, &mut copy)?;
+    let b = lent_short(rt, a, &head, &copy)?;
+    tried(rt, "then the header", b, true, &head, &mut copy)?;
+    Ok(())
 }
 
 // The third attempt of two.
@@ -387,7 +417,7 @@ fn third(phase: Phase) -> Collection {
 }
 
 // The last attempt of 65,535, with a count of commands.
-fn counted(label: &[u8], count: u64) {
+fn counted(rt: &impl Print, label: &str, count: u64) -> io::Result<()> {
     let mut copy = [9u8; 2048];
     let last = [3, 9, 9, 0];
     let s = Collection {
@@ -400,34 +430,43 @@ fn counted(label: &[u8], count: u64) {
         },
         count,
     };
-    tried(label, s, false, b"", &mut copy);
+    tried(rt, label, s, false, b"", &mut copy)?;
+    Ok(())
 }
 
-fn made_by_hand() {
+fn made_by_hand(rt: &impl Print) -> io::Result<()> {
     let mut copy = [9u8; 2048];
     let close = third(Phase::Close(false));
     let over = third(Phase::Ended);
     let data = [8u8; 511];
     tried(
-        b"a third attempt of two, 511 bytes",
+        rt,
+        "a third attempt of two, 511 bytes",
         close,
         true,
         &data,
         &mut copy,
-    );
-    tried(b"the same after its ending", over, true, &data, &mut copy);
-    counted(b"65,535 attempts and the most commands", 68718493697);
-    counted(b"65,535 attempts and a command more", 68718493698);
+    )?;
+    tried(
+        rt,
+        "the same after its ending",
+        over,
+        true,
+        &data,
+        &mut copy,
+    )?;
+    counted(rt, "65,535 attempts and the most commands", 68718493697)?;
+    counted(rt, "65,535 attempts and a command more", 68718493698)
 }
 
-fn main() {
-    setups();
-    firsts();
-    closings();
-    bad_closings();
-    matches();
-    other_blocks();
-    acknowledgements();
-    unfit();
-    made_by_hand();
+fn main(rt: HostRuntime) -> io::Result<()> {
+    setups(&rt)?;
+    firsts(&rt)?;
+    closings(&rt)?;
+    bad_closings(&rt)?;
+    matches(&rt)?;
+    other_blocks(&rt)?;
+    acknowledgements(&rt)?;
+    unfit(&rt)?;
+    made_by_hand(&rt)
 }

@@ -7,83 +7,37 @@ ghost use Rattle.reader.specs.Reader.{more_at, place_at};
 
 use collection::{Collection, Next, Stepped};
 use header::Fields;
-use libc::STDOUT_FILENO;
 use pages::Caps;
 use plans::Plan;
 use reader::Reader;
+use std::io;
 use words::Words;
 
-fn say(text: &[u8]) {
-    io::write_all(STDOUT_FILENO, text);
+// Eight digits a word in uppercase, as the paper prints them.
+fn command(rt: &impl Print, w: Words) -> io::Result<()> {
+    print!(rt;
+        "{:08X} {:08X} {:08X} {:08X} {:08X}",
+        w.cdw10, w.cdw11, w.cdw12, w.cdw13, w.cdw14
+    )
 }
 
-fn letter(c: u8) {
-    say(&[c]);
-}
-
-fn decimal(n: u64) {
-    io::print_decimal(STDOUT_FILENO, n);
-}
-
-fn digit(n: u32) -> u8 {
-    let d = n % 16;
-    if d < 10 {
-        48 + (d as u8)
-    } else {
-        55 + (d as u8)
-    }
-}
-
-// Eight digits in uppercase, as the paper prints them.
-fn word(w: u32) {
-    let digits = [
-        digit(w / 268435456),
-        digit(w / 16777216),
-        digit(w / 1048576),
-        digit(w / 65536),
-        digit(w / 4096),
-        digit(w / 256),
-        digit(w / 16),
-        digit(w),
-    ];
-    say(&digits);
-}
-
-fn command(w: Words) {
-    word(w.cdw10);
-    letter(b' ');
-    word(w.cdw11);
-    letter(b' ');
-    word(w.cdw12);
-    letter(b' ');
-    word(w.cdw13);
-    letter(b' ');
-    word(w.cdw14);
-}
-
-fn follow(next: Next) {
+fn follow(rt: &impl Print, next: Next) -> io::Result<()> {
     match next {
-        Next::Send(w) => command(w),
+        Next::Send(w) => command(rt, w),
         Next::End(e) => {
             let ending = e.ending;
-            say(b"ending ");
-            decimal(endings::number(ending) as u64);
-            say(b", commands ");
-            decimal(e.count);
+            print!(rt; "ending {}, commands {}", endings::number(ending), e.count)
         }
-        Next::Refuse(answer) => {
-            say(b"refused ");
-            decimal(answer as u64);
-        }
+        Next::Refuse(answer) => print!(rt; "refused {answer}"),
     }
 }
 
 // The command or the ending; then the state.
-fn show(x: Stepped) -> Collection {
+fn show(rt: &impl Print, x: Stepped) -> io::Result<Collection> {
     let next = x.next;
-    follow(next);
-    letter(b'\n');
-    x.state
+    follow(rt, next)?;
+    println!(rt;)?;
+    Ok(x.state)
 }
 
 fn plan(page: u8) -> Plan {
@@ -119,11 +73,11 @@ fn heading(page: u8, b: u32) -> [u8; 512] {
     })
 }
 
-fn compare(copy: &[u8], wanted: &[u8]) {
-    if check::same(copy, wanted) {
-        say(b"copy as wanted\n");
+fn compare(rt: &impl Print, copy: &[u8], wanted: &[u8]) -> io::Result<()> {
+    if copy == wanted {
+        println!(rt; "copy as wanted")
     } else {
-        say(b"copy not as wanted\n");
+        println!(rt; "copy not as wanted")
     }
 }
 
@@ -168,71 +122,76 @@ fn read(copy: &[u8], at: usize) -> Block
 }
 
 // The first byte of the block that a reader at a place hands out, or that it is at the end; then its place after that.
-fn shown(copy: &[u8], at: usize) -> usize {
+fn shown(rt: &impl Print, copy: &[u8], at: usize) -> io::Result<usize> {
     let b = read(copy, at);
     if b.more {
-        letter(b' ');
-        decimal(b.first as u64);
+        print!(rt; " {}", b.first)?;
     } else {
-        say(b" end");
+        print!(rt; " end")?;
     }
-    b.at
+    Ok(b.at)
 }
 
-fn four(copy: &[u8], at: usize) -> usize {
-    let a = shown(copy, at);
-    let b = shown(copy, a);
-    let c = shown(copy, b);
-    shown(copy, c)
+fn four(rt: &impl Print, copy: &[u8], at: usize) -> io::Result<usize> {
+    let a = shown(rt, copy, at)?;
+    let b = shown(rt, copy, a)?;
+    let c = shown(rt, copy, b)?;
+    shown(rt, copy, c)
 }
 
 // The eight blocks of a copy, as a reader hands them out, and twice the end.
-fn blocks(copy: &[u8]) {
-    say(b"blocks");
-    let half = four(copy, 0);
-    let end = four(copy, half);
-    let still = shown(copy, end);
-    shown(copy, still);
-    letter(b'\n');
+fn blocks(rt: &impl Print, copy: &[u8]) -> io::Result<()> {
+    print!(rt; "blocks")?;
+    let half = four(rt, copy, 0)?;
+    let end = four(rt, copy, half)?;
+    let still = shown(rt, copy, end)?;
+    shown(rt, copy, still)?;
+    println!(rt;)
 }
 
-fn begun(page: u8) -> Collection {
-    say(b"cdw10 cdw11 cdw12 cdw13 cdw14\n");
-    show(beginnings::setup(plan(page)))
+fn begun(rt: &impl Print, page: u8) -> io::Result<Collection> {
+    println!(rt; "cdw10 cdw11 cdw12 cdw13 cdw14")?;
+    show(rt, beginnings::setup(plan(page)))
 }
 
-fn next(s: Collection, data: &[u8], copy: &mut [u8]) -> Collection {
-    show(s.step(true, data, copy))
+fn next(rt: &impl Print, s: Collection, data: &[u8], copy: &mut [u8]) -> io::Result<Collection> {
+    show(rt, s.step(true, data, copy))
 }
 
-fn headed(s: Collection, page: u8, b: u32, copy: &mut [u8]) -> Collection {
-    next(s, &heading(page, b), copy)
+fn headed(
+    rt: &impl Print,
+    s: Collection,
+    page: u8,
+    b: u32,
+    copy: &mut [u8],
+) -> io::Result<Collection> {
+    next(rt, s, &heading(page, b), copy)
 }
 
-fn chunks(s: Collection, copy: &mut [u8]) -> Collection {
-    let a = next(s, &[1u8; 1536], copy);
-    let b = next(a, &[2u8; 1536], copy);
-    next(b, &[3u8; 512], copy)
+fn chunks(rt: &impl Print, s: Collection, copy: &mut [u8]) -> io::Result<Collection> {
+    let a = next(rt, s, &[1u8; 1536], copy)?;
+    let b = next(rt, a, &[2u8; 1536], copy)?;
+    next(rt, b, &[3u8; 512], copy)
 }
 
-fn whole() {
+fn whole(rt: &impl Print) -> io::Result<()> {
     let mut copy = [9u8; 4096];
-    let a = headed(begun(0x08), 0x08, 7, &mut copy);
-    let b = chunks(a, &mut copy);
-    let c = headed(b, 0x08, 7, &mut copy);
-    headed(c, 0x08, 7, &mut copy);
-    compare(&copy, &seven_blocks());
-    blocks(&copy);
+    let a = headed(rt, begun(rt, 0x08)?, 0x08, 7, &mut copy)?;
+    let b = chunks(rt, a, &mut copy)?;
+    let c = headed(rt, b, 0x08, 7, &mut copy)?;
+    headed(rt, c, 0x08, 7, &mut copy)?;
+    compare(rt, &copy, &seven_blocks())?;
+    blocks(rt, &copy)
 }
 
-fn empty() {
+fn empty(rt: &impl Print) -> io::Result<()> {
     let mut copy = [9u8; 4096];
-    let a = headed(begun(0x07), 0x07, 0, &mut copy);
-    headed(a, 0x07, 0, &mut copy);
-    compare(&copy, &[0u8; 4096]);
+    let a = headed(rt, begun(rt, 0x07)?, 0x07, 0, &mut copy)?;
+    headed(rt, a, 0x07, 0, &mut copy)?;
+    compare(rt, &copy, &[0u8; 4096])
 }
 
-fn main() {
-    whole();
-    empty();
+fn main(rt: HostRuntime) -> io::Result<()> {
+    whole(&rt)?;
+    empty(&rt)
 }

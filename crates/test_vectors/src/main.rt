@@ -4,81 +4,48 @@
 
 use completions::Planned;
 use header::Fields;
-use libc::STDOUT_FILENO;
 use pages::Caps;
+use std::io;
 use words::Words;
 
-fn say(text: &[u8]) {
-    io::write_all(STDOUT_FILENO, text);
+fn class(rt: &impl Print, identifier: u8) -> io::Result<()> {
+    let class = answers::class(identifier);
+    println!(rt; "{identifier:02x} {class}")
 }
 
-fn decimal(n: u64) {
-    io::print_decimal(STDOUT_FILENO, n);
-}
-
-fn letter(c: u8) {
-    say(&[c]);
-}
-
-fn newline() {
-    letter(b'\n');
-}
-
-fn number(label: &[u8], n: usize) {
-    say(label);
-    decimal(n as u64);
-}
-
-fn byte(label: &[u8], b: u8) {
-    say(label);
-    decimal(b as u64);
-}
-
-fn flag(label: &[u8], is: bool) {
-    if is {
-        say(label);
-    }
-}
-
-fn word(n: u32) {
-    letter(b' ');
-    io::print_hex(STDOUT_FILENO, n as u64, 8);
-}
-
-fn class(identifier: u8) {
-    io::print_hex(STDOUT_FILENO, identifier as u64, 2);
-    letter(b' ');
-    decimal(answers::class(identifier) as u64);
-    newline();
-}
-
-fn status(answer: u8) {
+fn status(rt: &impl Print, answer: u8) -> io::Result<()> {
     let s = answers::status_of(answer);
-    decimal(answer as u64);
     if s.given {
-        letter(b' ');
-        decimal(s.sct as u64);
-        letter(b' ');
-        io::print_hex(STDOUT_FILENO, s.sc as u64, 2);
-        newline();
+        println!(rt; "{answer} {} {:02x}", s.sct, s.sc)
     } else {
-        say(b" none\n");
+        println!(rt; "{answer} none")
     }
 }
 
-fn build(page: u8, create: bool, mcda: u8, rae: bool, offset: u32, blocks: u32) {
+fn build(
+    rt: &impl Print,
+    page: u8,
+    create: bool,
+    mcda: u8,
+    rae: bool,
+    offset: u32,
+    blocks: u32,
+) -> io::Result<()> {
     let b = words::build(page, create, mcda, rae, offset, blocks);
     let w = b.words;
-    decimal(b.answer as u64);
-    word(w.cdw10);
-    word(w.cdw11);
-    word(w.cdw12);
-    word(w.cdw13);
-    word(w.cdw14);
-    newline();
+    print!(rt; "{} {:08x} {:08x}", b.answer, w.cdw10, w.cdw11)?;
+    println!(rt; " {:08x} {:08x} {:08x}", w.cdw12, w.cdw13, w.cdw14)
 }
 
-fn read(extended: bool, cdw10: u32, cdw11: u32, cdw12: u32, cdw13: u32, cdw14: u32) {
+fn read(
+    rt: &impl Print,
+    extended: bool,
+    cdw10: u32,
+    cdw11: u32,
+    cdw12: u32,
+    cdw13: u32,
+    cdw14: u32,
+) -> io::Result<()> {
     let w = Words {
         cdw10,
         cdw11,
@@ -87,26 +54,24 @@ fn read(extended: bool, cdw10: u32, cdw11: u32, cdw12: u32, cdw13: u32, cdw14: u
         cdw14,
     };
     let c = words::read(extended, w);
-    byte(b"page ", c.page);
-    flag(b" create", c.create);
-    byte(b" mcda ", c.mcda);
-    flag(b" rae", c.rae);
-    number(b" bytes ", c.bytes);
-    number(b" offset ", c.offset);
-    flag(b" indexed", c.indexed);
-    newline();
+    print!(rt; "page {}", c.page)?;
+    flag(rt, " create", c.create)?;
+    print!(rt; " mcda {}", c.mcda)?;
+    flag(rt, " rae", c.rae)?;
+    print!(rt; " bytes {} offset {}", c.bytes, c.offset)?;
+    flag(rt, " indexed", c.indexed)?;
+    println!(rt;)
 }
 
-fn after_comma(n: u32) {
-    letter(b',');
-    decimal(n as u64);
+fn flag(rt: &impl Print, label: &str, is: bool) -> io::Result<()> {
+    if is {
+        print!(rt; "{label}")?;
+    }
+    Ok(())
 }
 
-fn four(a: [u32; 4]) {
-    decimal(a[0] as u64);
-    after_comma(a[1]);
-    after_comma(a[2]);
-    after_comma(a[3]);
+fn four(rt: &impl Print, a: [u32; 4]) -> io::Result<()> {
+    print!(rt; "{},{},{},{}", a[0], a[1], a[2], a[3])
 }
 
 fn capable(da4s: bool, etdas: bool, mcdas: bool) -> Caps {
@@ -119,21 +84,27 @@ fn capable(da4s: bool, etdas: bool, mcdas: bool) -> Caps {
     }
 }
 
-fn trim(da4s: bool, etdas: bool, mcdas: bool, mcda: u32, a: [u32; 4]) {
-    four(trimming::trim(capable(da4s, etdas, mcdas), mcda, a));
-    newline();
+fn trim(
+    rt: &impl Print,
+    da4s: bool,
+    etdas: bool,
+    mcdas: bool,
+    mcda: u32,
+    a: [u32; 4],
+) -> io::Result<()> {
+    four(rt, trimming::trim(capable(da4s, etdas, mcdas), mcda, a))?;
+    println!(rt;)
 }
 
-fn size(da4s: bool, etdas: bool, a: [u32; 4]) {
-    decimal(pages::size(capable(da4s, etdas, false), a) as u64);
-    newline();
+fn size(rt: &impl Print, da4s: bool, etdas: bool, a: [u32; 4]) -> io::Result<()> {
+    println!(rt; "{}", pages::size(capable(da4s, etdas, false), a))
 }
 
-fn rule(da4s: bool, a: [u32; 4]) {
+fn rule(rt: &impl Print, da4s: bool, a: [u32; 4]) -> io::Result<()> {
     if lastblocks::last_ok(da4s, a) {
-        say(b"kept\n");
+        println!(rt; "kept")
     } else {
-        say(b"broken\n");
+        println!(rt; "broken")
     }
 }
 
@@ -151,21 +122,16 @@ fn sample(page: u8) -> [u8; 512] {
     })
 }
 
-fn fields(f: Fields) {
+fn fields(rt: &impl Print, f: Fields) -> io::Result<()> {
     let last = f.last;
     let reason = f.reason;
-    byte(b" page ", f.page);
-    say(b" oui");
-    word(f.oui);
-    say(b" last ");
-    four(last);
-    byte(b" scope ", f.scope);
-    byte(b" generations ", f.hostgeneration);
-    byte(b",", f.controllergeneration);
-    byte(b" tcda ", f.tcda);
-    byte(b" reason ", reason[0]);
-    byte(b",", reason[127]);
-    newline();
+    print!(rt; " page {} oui {:08x} last ", f.page, f.oui)?;
+    four(rt, last)?;
+    print!(rt;
+        " scope {} generations {},{}",
+        f.scope, f.hostgeneration, f.controllergeneration
+    )?;
+    println!(rt; " tcda {} reason {},{}", f.tcda, reason[0], reason[127])
 }
 
 // A plan from a header, of the greatest area that there is, a block a command, with the largest room.
@@ -187,217 +153,224 @@ fn plan_of(page: u8, da4s: bool, h: &[u8]) -> Planned {
     )
 }
 
-fn check(page: u8, da4s: bool, h: &[u8]) {
+fn check(rt: &impl Print, page: u8, da4s: bool, h: &[u8]) -> io::Result<()> {
     let x = plan_of(page, da4s, h);
     let fault = x.fault;
     let f = x.fields;
-    decimal(x.answer as u64);
-    byte(b" field ", shared_layouts::fault_number(fault));
-    number(b" at ", header::byte_of(page, fault) as usize);
-    number(b" chunks ", x.chunks as usize);
-    fields(f);
+    print!(rt;
+        "{} field {}",
+        x.answer,
+        shared_layouts::fault_number(fault)
+    )?;
+    print!(rt; " at {} chunks {}", header::byte_of(page, fault), x.chunks)?;
+    fields(rt, f)
 }
 
-fn check_whole(page: u8, da4s: bool, h: &[u8; 512]) {
-    check(page, da4s, h);
+fn check_whole(rt: &impl Print, page: u8, da4s: bool, h: &[u8; 512]) -> io::Result<()> {
+    check(rt, page, da4s, h)
 }
 
-fn check_part(page: u8, h: &[u8], end: usize) {
+fn check_part(rt: &impl Print, page: u8, h: &[u8], end: usize) -> io::Result<()> {
     if end <= h.len() {
-        check(page, true, &h[0..end]);
+        check(rt, page, true, &h[0..end])?;
     }
+    Ok(())
 }
 
 // The header's first bytes, of which it may have one more than 512.
-fn check_cut(page: u8, h: &[u8; 512], bytes: usize) {
+fn check_cut(rt: &impl Print, page: u8, h: &[u8; 512], bytes: usize) -> io::Result<()> {
     let mut longer = [0u8; 513];
     copies::put(h, &mut longer, 0);
-    check_part(page, &longer, bytes);
+    check_part(rt, page, &longer, bytes)
 }
 
-fn check_with(page: u8, at: usize, byte: u8) {
+fn check_with(rt: &impl Print, page: u8, at: usize, byte: u8) -> io::Result<()> {
     let mut h = sample(page);
     if at < 512 {
         h[at] = byte;
     }
-    check_whole(page, true, &h);
+    check_whole(rt, page, true, &h)
 }
 
-fn identifiers() {
-    say(b"classes, by identifier\n");
-    class(0x00);
-    class(0x0d);
-    class(0x0e);
-    class(0x0f);
-    class(0x18);
-    class(0x19);
-    class(0x1a);
-    class(0x23);
-    class(0x24);
-    class(0x25);
-    class(0x26);
-    class(0x6f);
-    class(0x70);
-    class(0x73);
-    class(0x74);
-    class(0x7e);
-    class(0x7f);
-    class(0x81);
-    class(0x82);
-    class(0xbf);
-    class(0xc0);
-    class(0xff);
+fn identifiers(rt: &impl Print) -> io::Result<()> {
+    println!(rt; "classes, by identifier")?;
+    class(rt, 0x00)?;
+    class(rt, 0x0d)?;
+    class(rt, 0x0e)?;
+    class(rt, 0x0f)?;
+    class(rt, 0x18)?;
+    class(rt, 0x19)?;
+    class(rt, 0x1a)?;
+    class(rt, 0x23)?;
+    class(rt, 0x24)?;
+    class(rt, 0x25)?;
+    class(rt, 0x26)?;
+    class(rt, 0x6f)?;
+    class(rt, 0x70)?;
+    class(rt, 0x73)?;
+    class(rt, 0x74)?;
+    class(rt, 0x7e)?;
+    class(rt, 0x7f)?;
+    class(rt, 0x81)?;
+    class(rt, 0x82)?;
+    class(rt, 0xbf)?;
+    class(rt, 0xc0)?;
+    class(rt, 0xff)
 }
 
-fn statuses() {
-    say(b"statuses, by answer\n");
-    status(0);
-    status(1);
-    status(2);
-    status(3);
-    status(15);
-    status(255);
+fn statuses(rt: &impl Print) -> io::Result<()> {
+    println!(rt; "statuses, by answer")?;
+    status(rt, 0)?;
+    status(rt, 1)?;
+    status(rt, 2)?;
+    status(rt, 3)?;
+    status(rt, 15)?;
+    status(rt, 255)
 }
 
-fn built() {
-    say(b"first word, 07h, create, w = 3, MCDAS\n");
-    build(0x07, true, 3, true, 0, 1);
-    say(b"the listing of 08h, B = 7, c = 3\n");
-    build(0x08, false, 0, true, 0, 1);
-    build(0x08, false, 0, true, 1, 3);
-    build(0x08, false, 0, true, 4, 3);
-    build(0x08, false, 0, true, 7, 1);
-    build(0x08, false, 0, true, 0, 1);
-    build(0x08, false, 0, false, 0, 1);
-    say(b"the longest command, at the last block of the largest area 4\n");
-    build(0x08, false, 0, true, 1048576, 8192);
-    say(
-        b"bad arguments: page, create on 08h, MCDA, MCDA without create, length 0 and 8,193, offset\n",
-    );
-    build(0x09, false, 0, true, 0, 1);
-    build(0x08, true, 0, true, 0, 1);
-    build(0x07, true, 5, true, 0, 1);
-    build(0x07, false, 1, true, 0, 1);
-    build(0x07, false, 0, true, 0, 0);
-    build(0x07, false, 0, true, 0, 8193);
-    build(0x07, false, 0, true, 1048577, 1);
+fn built(rt: &impl Print) -> io::Result<()> {
+    println!(rt; "first word, 07h, create, w = 3, MCDAS")?;
+    build(rt, 0x07, true, 3, true, 0, 1)?;
+    println!(rt; "the listing of 08h, B = 7, c = 3")?;
+    build(rt, 0x08, false, 0, true, 0, 1)?;
+    build(rt, 0x08, false, 0, true, 1, 3)?;
+    build(rt, 0x08, false, 0, true, 4, 3)?;
+    build(rt, 0x08, false, 0, true, 7, 1)?;
+    build(rt, 0x08, false, 0, true, 0, 1)?;
+    build(rt, 0x08, false, 0, false, 0, 1)?;
+    println!(rt; "the longest command, at the last block of the largest area 4")?;
+    build(rt, 0x08, false, 0, true, 1048576, 8192)?;
+    println!(rt;
+        "bad arguments: page, create on 08h, MCDA, MCDA without create, length 0 and 8,193, offset"
+    )?;
+    build(rt, 0x09, false, 0, true, 0, 1)?;
+    build(rt, 0x08, true, 0, true, 0, 1)?;
+    build(rt, 0x07, true, 5, true, 0, 1)?;
+    build(rt, 0x07, false, 1, true, 0, 1)?;
+    build(rt, 0x07, false, 0, true, 0, 0)?;
+    build(rt, 0x07, false, 0, true, 0, 8193)?;
+    build(rt, 0x07, false, 0, true, 1048577, 1)
 }
 
-fn asked() {
-    say(
-        b"words read: the longest transfer, bits 27:16 alone without extended data, create on 08h, offset type, reserved bits\n",
-    );
-    read(true, 0xffff0007, 0x0000ffff, 0, 0, 0);
-    read(false, 0xf07f0007, 0xffffffff, 0, 0, 0);
-    read(true, 0x007f0f08, 0, 0x200, 1, 0);
-    read(true, 0x007ef107, 0xffff0000, 0, 0, 0x00800000);
-    read(true, 0x007f7007, 0, 0, 0, 0xff7fffff);
+fn asked(rt: &impl Print) -> io::Result<()> {
+    println!(rt;
+        "words read: the longest transfer, bits 27:16 alone without extended data, create on 08h, offset type, reserved bits"
+    )?;
+    read(rt, true, 0xffff0007, 0x0000ffff, 0, 0, 0)?;
+    read(rt, false, 0xf07f0007, 0xffffffff, 0, 0, 0)?;
+    read(rt, true, 0x007f0f08, 0, 0x200, 1, 0)?;
+    read(rt, true, 0x007ef107, 0xffff0000, 0, 0, 0x00800000)?;
+    read(rt, true, 0x007f7007, 0, 0, 0, 0xff7fffff)
 }
 
-fn trimmed() {
-    say(b"candidate (2,2,5,9), DA4S, ETDAS, MCDAS 1: MCDA 2, 0, 1, 3, 4\n");
-    trim(true, true, true, 2, [2, 2, 5, 9]);
-    trim(true, true, true, 0, [2, 2, 5, 9]);
-    trim(true, true, true, 1, [2, 2, 5, 9]);
-    trim(true, true, true, 3, [2, 2, 5, 9]);
-    trim(true, true, true, 4, [2, 2, 5, 9]);
-    say(b"the same with MCDAS 0 and MCDA 2; ETDAS 0 and MCDA 0, 4; DA4S 0 and MCDA 0, 2\n");
-    trim(true, true, false, 2, [2, 2, 5, 9]);
-    trim(true, false, true, 0, [2, 2, 5, 9]);
-    trim(true, false, true, 4, [2, 2, 5, 9]);
-    trim(false, true, true, 0, [2, 2, 5, 9]);
-    trim(false, true, true, 2, [2, 2, 5, 9]);
-    say(b"candidate (0,3,5,5), MCDA 1\n");
-    trim(true, true, true, 1, [0, 3, 5, 5]);
+fn trimmed(rt: &impl Print) -> io::Result<()> {
+    println!(rt; "candidate (2,2,5,9), DA4S, ETDAS, MCDAS 1: MCDA 2, 0, 1, 3, 4")?;
+    trim(rt, true, true, true, 2, [2, 2, 5, 9])?;
+    trim(rt, true, true, true, 0, [2, 2, 5, 9])?;
+    trim(rt, true, true, true, 1, [2, 2, 5, 9])?;
+    trim(rt, true, true, true, 3, [2, 2, 5, 9])?;
+    trim(rt, true, true, true, 4, [2, 2, 5, 9])?;
+    println!(rt; "the same with MCDAS 0 and MCDA 2; ETDAS 0 and MCDA 0, 4; DA4S 0 and MCDA 0, 2")?;
+    trim(rt, true, true, false, 2, [2, 2, 5, 9])?;
+    trim(rt, true, false, true, 0, [2, 2, 5, 9])?;
+    trim(rt, true, false, true, 4, [2, 2, 5, 9])?;
+    trim(rt, false, true, true, 0, [2, 2, 5, 9])?;
+    trim(rt, false, true, true, 2, [2, 2, 5, 9])?;
+    println!(rt; "candidate (0,3,5,5), MCDA 1")?;
+    trim(rt, true, true, true, 1, [0, 3, 5, 5])
 }
 
-fn sizes() {
-    say(b"sizes: (2,2,5,0) without area 4; (2,2,5,9) with, and with ETDAS 0; any four numbers\n");
-    size(false, false, [2, 2, 5, 0]);
-    size(true, true, [2, 2, 5, 9]);
-    size(true, false, [2, 2, 5, 9]);
-    size(true, true, [0, 0, 0, 4294967295]);
+fn sizes(rt: &impl Print) -> io::Result<()> {
+    println!(rt;
+        "sizes: (2,2,5,0) without area 4; (2,2,5,9) with, and with ETDAS 0; any four numbers"
+    )?;
+    size(rt, false, false, [2, 2, 5, 0])?;
+    size(rt, true, true, [2, 2, 5, 9])?;
+    size(rt, true, false, [2, 2, 5, 9])?;
+    size(rt, true, true, [0, 0, 0, 4294967295])
 }
 
-fn rules() {
-    say(
-        b"the rule: in order; a1 > a2; a2 > a3; a3 over its limit; a4 < a3; a4 over its limit; a4 alone; a4 without DA4S\n",
-    );
-    rule(true, [2, 2, 5, 9]);
-    rule(true, [3, 2, 5, 9]);
-    rule(true, [2, 6, 5, 9]);
-    rule(true, [2, 2, 65536, 65536]);
-    rule(true, [2, 2, 5, 4]);
-    rule(true, [2, 2, 5, 1048577]);
-    rule(true, [0, 0, 0, 1]);
-    rule(false, [2, 2, 5, 9]);
-    say(b"and at its limits, with DA4S and without\n");
-    rule(true, [65535, 65535, 65535, 1048576]);
-    rule(false, [65535, 65535, 65535, 0]);
-    rule(false, [0, 0, 0, 0]);
+fn rules(rt: &impl Print) -> io::Result<()> {
+    println!(rt;
+        "the rule: in order; a1 > a2; a2 > a3; a3 over its limit; a4 < a3; a4 over its limit; a4 alone; a4 without DA4S"
+    )?;
+    rule(rt, true, [2, 2, 5, 9])?;
+    rule(rt, true, [3, 2, 5, 9])?;
+    rule(rt, true, [2, 6, 5, 9])?;
+    rule(rt, true, [2, 2, 65536, 65536])?;
+    rule(rt, true, [2, 2, 5, 4])?;
+    rule(rt, true, [2, 2, 5, 1048577])?;
+    rule(rt, true, [0, 0, 0, 1])?;
+    rule(rt, false, [2, 2, 5, 9])?;
+    println!(rt; "and at its limits, with DA4S and without")?;
+    rule(rt, true, [65535, 65535, 65535, 1048576])?;
+    rule(rt, false, [65535, 65535, 65535, 0])?;
+    rule(rt, false, [0, 0, 0, 0])
 }
 
-fn good_headers() {
-    say(b"headers read back: 07h, 08h\n");
-    check_whole(0x07, true, &sample(0x07));
-    check_whole(0x08, true, &sample(0x08));
-    say(b"good: 07h with scope 0, 08h with byte 380 at FFh, 07h with TCDA 1 and a3 = 0\n");
-    check_with(0x07, 380, 0);
-    check_with(0x08, 380, 255);
+fn good_headers(rt: &impl Print) -> io::Result<()> {
+    println!(rt; "headers read back: 07h, 08h")?;
+    check_whole(rt, 0x07, true, &sample(0x07))?;
+    check_whole(rt, 0x08, true, &sample(0x08))?;
+    println!(rt; "good: 07h with scope 0, 08h with byte 380 at FFh, 07h with TCDA 1 and a3 = 0")?;
+    check_with(rt, 0x07, 380, 0)?;
+    check_with(rt, 0x08, 380, 255)?;
     let mut empty = [0u8; 512];
     empty[0] = 0x07;
     empty[382] = 1;
-    check_whole(0x07, false, &empty);
-    say(b"nothing: 08h with TCDA 0 and last blocks, and with none\n");
-    check_with(0x08, 382, 0);
-    check_bare(0x08, true, 382, 0);
+    check_whole(rt, 0x07, false, &empty)?;
+    println!(rt; "nothing: 08h with TCDA 0 and last blocks, and with none")?;
+    check_with(rt, 0x08, 382, 0)?;
+    check_bare(rt, 0x08, true, 382, 0)
 }
 
 // A header with no block, but for one byte.
-fn check_bare(page: u8, da4s: bool, at: usize, byte: u8) {
+fn check_bare(rt: &impl Print, page: u8, da4s: bool, at: usize, byte: u8) -> io::Result<()> {
     let mut h = [0u8; 512];
     h[0] = page;
     if at < 512 {
         h[at] = byte;
     }
-    check_whole(page, da4s, &h);
+    check_whole(rt, page, da4s, &h)
 }
 
-fn bad_lengths() {
+fn bad_lengths(rt: &impl Print) -> io::Result<()> {
     let host = sample(0x07);
-    say(b"bad: lengths 0, 511 and 513; 513 asked for as 08h, and as 09h, which no plan has\n");
-    check_cut(0x07, &host, 0);
-    check_cut(0x07, &host, 511);
-    check_cut(0x07, &host, 513);
-    check_cut(0x08, &host, 513);
-    check_cut(0x09, &host, 513);
+    println!(rt;
+        "bad: lengths 0, 511 and 513; 513 asked for as 08h, and as 09h, which no plan has"
+    )?;
+    check_cut(rt, 0x07, &host, 0)?;
+    check_cut(rt, 0x07, &host, 511)?;
+    check_cut(rt, 0x07, &host, 513)?;
+    check_cut(rt, 0x08, &host, 513)?;
+    check_cut(rt, 0x09, &host, 513)
 }
 
-fn bad_areas() {
-    say(
-        b"bad: a1 > a2, a2 > a3, a4 < a3, a4 over its limit, a4 alone, a4 without DA4S; 08h available but empty, and with TCDA 2\n",
-    );
-    check_with(0x07, 8, 3);
-    check_with(0x08, 12, 1);
-    check_with(0x07, 16, 4);
-    check_with(0x08, 19, 1);
-    check_bare(0x07, true, 16, 1);
-    check_bare(0x08, false, 16, 1);
-    check_bare(0x08, false, 382, 1);
-    check_bare(0x08, true, 382, 2);
+fn bad_areas(rt: &impl Print) -> io::Result<()> {
+    println!(rt;
+        "bad: a1 > a2, a2 > a3, a4 < a3, a4 over its limit, a4 alone, a4 without DA4S; 08h available but empty, and with TCDA 2"
+    )?;
+    check_with(rt, 0x07, 8, 3)?;
+    check_with(rt, 0x08, 12, 1)?;
+    check_with(rt, 0x07, 16, 4)?;
+    check_with(rt, 0x08, 19, 1)?;
+    check_bare(rt, 0x07, true, 16, 1)?;
+    check_bare(rt, 0x08, false, 16, 1)?;
+    check_bare(rt, 0x08, false, 382, 1)?;
+    check_bare(rt, 0x08, true, 382, 2)
 }
 
-fn bad_headers() {
+fn bad_headers(rt: &impl Print) -> io::Result<()> {
     let host = sample(0x07);
-    say(
-        b"bad: identifier; a page asked for that is none; scope 3 of 07h and of 08h, TCDA 2 of 07h and of 08h\n",
-    );
-    check_whole(0x08, true, &host);
-    check_bare(0x09, true, 0, 0x09);
-    check_with(0x07, 380, 3);
-    check_with(0x08, 381, 3);
-    check_with(0x07, 382, 2);
-    check_with(0x08, 382, 2);
+    println!(rt;
+        "bad: identifier; a page asked for that is none; scope 3 of 07h and of 08h, TCDA 2 of 07h and of 08h"
+    )?;
+    check_whole(rt, 0x08, true, &host)?;
+    check_bare(rt, 0x09, true, 0, 0x09)?;
+    check_with(rt, 0x07, 380, 3)?;
+    check_with(rt, 0x08, 381, 3)?;
+    check_with(rt, 0x07, 382, 2)?;
+    check_with(rt, 0x08, 382, 2)
 }
 
 // Whether a fault, by its number, is one of two.
@@ -435,65 +408,74 @@ fn spoilt(page: u8, da4s: bool, i: u8, j: u8) -> [u8; 512] {
 }
 
 // The number of what is found at fault in the first bytes of a header.
-fn found_in(page: u8, da4s: bool, h: &[u8], bytes: usize) {
+fn found_in(rt: &impl Print, page: u8, da4s: bool, h: &[u8], bytes: usize) -> io::Result<()> {
     if bytes <= h.len() {
         let x = plan_of(page, da4s, &h[0..bytes]);
         let fault = x.fault;
-        byte(b" ", shared_layouts::fault_number(fault));
+        print!(rt; " {}", shared_layouts::fault_number(fault))?;
     }
+    Ok(())
 }
 
-fn pair(page: u8, da4s: bool, bytes: usize, i: u8, j: u8) {
+fn pair(rt: &impl Print, page: u8, da4s: bool, bytes: usize, i: u8, j: u8) -> io::Result<()> {
     let mut longer = [0u8; 513];
     copies::put(&spoilt(page, da4s, i, j), &mut longer, 0);
     found_in(
+        rt,
         page,
         da4s,
         &longer,
         choices::pick_usize(has(i, j, 1), bytes, 512),
-    );
+    )
 }
 
 // A fault beside each of the eight.
-fn row(page: u8, da4s: bool, bytes: usize, i: u8) {
-    byte(b"", i);
-    letter(b':');
-    pair(page, da4s, bytes, i, 1);
-    pair(page, da4s, bytes, i, 2);
-    pair(page, da4s, bytes, i, 3);
-    pair(page, da4s, bytes, i, 4);
-    pair(page, da4s, bytes, i, 5);
-    pair(page, da4s, bytes, i, 6);
-    pair(page, da4s, bytes, i, 7);
-    pair(page, da4s, bytes, i, 8);
-    newline();
+fn row(rt: &impl Print, page: u8, da4s: bool, bytes: usize, i: u8) -> io::Result<()> {
+    print!(rt; "{i}:")?;
+    pair(rt, page, da4s, bytes, i, 1)?;
+    pair(rt, page, da4s, bytes, i, 2)?;
+    pair(rt, page, da4s, bytes, i, 3)?;
+    pair(rt, page, da4s, bytes, i, 4)?;
+    pair(rt, page, da4s, bytes, i, 5)?;
+    pair(rt, page, da4s, bytes, i, 6)?;
+    pair(rt, page, da4s, bytes, i, 7)?;
+    pair(rt, page, da4s, bytes, i, 8)?;
+    println!(rt;)
 }
 
-fn pairs(label: &[u8], page: u8, da4s: bool, bytes: usize) {
-    say(label);
-    newline();
-    row(page, da4s, bytes, 1);
-    row(page, da4s, bytes, 2);
-    row(page, da4s, bytes, 3);
-    row(page, da4s, bytes, 4);
-    row(page, da4s, bytes, 5);
-    row(page, da4s, bytes, 6);
-    row(page, da4s, bytes, 7);
-    row(page, da4s, bytes, 8);
+fn pairs(rt: &impl Print, label: &str, page: u8, da4s: bool, bytes: usize) -> io::Result<()> {
+    println!(rt; "{label}")?;
+    row(rt, page, da4s, bytes, 1)?;
+    row(rt, page, da4s, bytes, 2)?;
+    row(rt, page, da4s, bytes, 3)?;
+    row(rt, page, da4s, bytes, 4)?;
+    row(rt, page, da4s, bytes, 5)?;
+    row(rt, page, da4s, bytes, 6)?;
+    row(rt, page, da4s, bytes, 7)?;
+    row(rt, page, da4s, bytes, 8)
 }
 
-fn faults() {
-    say(
-        b"what is told of two faults: 1 length, 2 identifier, 3 to 5 areas 2 to 4, 6 scope, 7 TCDA, 8 available but empty, which is none on 07h\n",
-    );
-    pairs(b"07h with DA4S, the length 511", 0x07, true, 511);
-    pairs(b"07h without, the length 513", 0x07, false, 513);
-    pairs(b"08h with DA4S, the length 513", 0x08, true, 513);
-    pairs(b"08h without, the length 511", 0x08, false, 511);
+fn faults(rt: &impl Print) -> io::Result<()> {
+    println!(rt;
+        "what is told of two faults: 1 length, 2 identifier, 3 to 5 areas 2 to 4, 6 scope, 7 TCDA, 8 available but empty, which is none on 07h"
+    )?;
+    pairs(rt, "07h with DA4S, the length 511", 0x07, true, 511)?;
+    pairs(rt, "07h without, the length 513", 0x07, false, 513)?;
+    pairs(rt, "08h with DA4S, the length 513", 0x08, true, 513)?;
+    pairs(rt, "08h without, the length 511", 0x08, false, 511)
 }
 
 // The answer to a plan from the sample header (2,2,5,9), with this TCDA and byte 381, the scope of 08h and the generation of 07h, and the number of chunks.
-fn plan(page: u8, area: u8, chunk: u32, room: usize, etdas: bool, tcda: u8, scope: u8) {
+fn plan(
+    rt: &impl Print,
+    page: u8,
+    area: u8,
+    chunk: u32,
+    room: usize,
+    etdas: bool,
+    tcda: u8,
+    scope: u8,
+) -> io::Result<()> {
     let mut h = sample(page);
     h[382] = tcda;
     h[381] = scope;
@@ -505,61 +487,59 @@ fn plan(page: u8, area: u8, chunk: u32, room: usize, etdas: bool, tcda: u8, scop
         mcdas: false,
     };
     let x = completions::plan(page, area, caps, chunk, room, &h);
-    decimal(x.answer as u64);
-    number(b" chunks ", x.chunks as usize);
-    newline();
+    println!(rt; "{} chunks {}", x.answer, x.chunks)
 }
 
-fn chunk_lists() {
-    say(b"plans of (2,2,5,9): area 4 with c = 1, 2, 3, 4, 5, 8, 9, 10, 8192\n");
-    plan(0x07, 4, 1, 4608, true, 1, 1);
-    plan(0x07, 4, 2, 4608, true, 1, 1);
-    plan(0x08, 4, 3, 4608, true, 1, 1);
-    plan(0x08, 4, 4, 4608, true, 1, 1);
-    plan(0x07, 4, 5, 4608, true, 1, 1);
-    plan(0x07, 4, 8, 4608, true, 1, 1);
-    plan(0x08, 4, 9, 4608, true, 1, 1);
-    plan(0x08, 4, 10, 4608, true, 1, 1);
-    plan(0x08, 4, 8192, 4608, true, 1, 1);
-    say(b"areas 1, 2 and 3 with c = 2, without ETDAS\n");
-    plan(0x07, 1, 2, 4608, false, 1, 1);
-    plan(0x08, 2, 2, 4608, false, 1, 1);
-    plan(0x07, 3, 2, 4608, false, 1, 1);
+fn chunk_lists(rt: &impl Print) -> io::Result<()> {
+    println!(rt; "plans of (2,2,5,9): area 4 with c = 1, 2, 3, 4, 5, 8, 9, 10, 8192")?;
+    plan(rt, 0x07, 4, 1, 4608, true, 1, 1)?;
+    plan(rt, 0x07, 4, 2, 4608, true, 1, 1)?;
+    plan(rt, 0x08, 4, 3, 4608, true, 1, 1)?;
+    plan(rt, 0x08, 4, 4, 4608, true, 1, 1)?;
+    plan(rt, 0x07, 4, 5, 4608, true, 1, 1)?;
+    plan(rt, 0x07, 4, 8, 4608, true, 1, 1)?;
+    plan(rt, 0x08, 4, 9, 4608, true, 1, 1)?;
+    plan(rt, 0x08, 4, 10, 4608, true, 1, 1)?;
+    plan(rt, 0x08, 4, 8192, 4608, true, 1, 1)?;
+    println!(rt; "areas 1, 2 and 3 with c = 2, without ETDAS")?;
+    plan(rt, 0x07, 1, 2, 4608, false, 1, 1)?;
+    plan(rt, 0x08, 2, 2, 4608, false, 1, 1)?;
+    plan(rt, 0x07, 3, 2, 4608, false, 1, 1)
 }
 
-fn plan_refusals() {
-    say(
-        b"room for one block less; 08h with TCDA 0 and room for one block less; scope 3, with that too\n",
-    );
-    plan(0x08, 4, 1, 4096, true, 1, 1);
-    plan(0x08, 4, 1, 4096, true, 0, 1);
-    plan(0x08, 4, 1, 4096, true, 0, 3);
-    say(
-        b"area 4 without ETDAS, with that too; c = 0, 8193, area 0, 5, room 511, over the largest, page 09h, with that too\n",
-    );
-    plan(0x08, 4, 1, 4096, false, 0, 3);
-    plan(0x08, 4, 0, 4096, false, 0, 3);
-    plan(0x08, 4, 8193, 4096, false, 0, 3);
-    plan(0x08, 0, 1, 4096, false, 0, 3);
-    plan(0x08, 5, 1, 4096, false, 0, 3);
-    plan(0x08, 4, 1, 511, false, 0, 3);
-    plan(0x08, 4, 1, 536871424, false, 0, 3);
-    plan(0x09, 4, 1, 4096, false, 0, 3);
+fn plan_refusals(rt: &impl Print) -> io::Result<()> {
+    println!(rt;
+        "room for one block less; 08h with TCDA 0 and room for one block less; scope 3, with that too"
+    )?;
+    plan(rt, 0x08, 4, 1, 4096, true, 1, 1)?;
+    plan(rt, 0x08, 4, 1, 4096, true, 0, 1)?;
+    plan(rt, 0x08, 4, 1, 4096, true, 0, 3)?;
+    println!(rt;
+        "area 4 without ETDAS, with that too; c = 0, 8193, area 0, 5, room 511, over the largest, page 09h, with that too"
+    )?;
+    plan(rt, 0x08, 4, 1, 4096, false, 0, 3)?;
+    plan(rt, 0x08, 4, 0, 4096, false, 0, 3)?;
+    plan(rt, 0x08, 4, 8193, 4096, false, 0, 3)?;
+    plan(rt, 0x08, 0, 1, 4096, false, 0, 3)?;
+    plan(rt, 0x08, 5, 1, 4096, false, 0, 3)?;
+    plan(rt, 0x08, 4, 1, 511, false, 0, 3)?;
+    plan(rt, 0x08, 4, 1, 536871424, false, 0, 3)?;
+    plan(rt, 0x09, 4, 1, 4096, false, 0, 3)
 }
 
-fn main() {
-    identifiers();
-    statuses();
-    built();
-    asked();
-    trimmed();
-    sizes();
-    rules();
-    good_headers();
-    bad_lengths();
-    bad_headers();
-    bad_areas();
-    faults();
-    chunk_lists();
-    plan_refusals();
+fn main(rt: HostRuntime) -> io::Result<()> {
+    identifiers(&rt)?;
+    statuses(&rt)?;
+    built(&rt)?;
+    asked(&rt)?;
+    trimmed(&rt)?;
+    sizes(&rt)?;
+    rules(&rt)?;
+    good_headers(&rt)?;
+    bad_lengths(&rt)?;
+    bad_headers(&rt)?;
+    bad_areas(&rt)?;
+    faults(&rt)?;
+    chunk_lists(&rt)?;
+    plan_refusals(&rt)
 }
