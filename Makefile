@@ -9,7 +9,7 @@
 # make demo      shows a collection that a capture interrupts
 # make bench     measures serving and collecting against memcpy and against nvme-cli, and entering into a sheet against plain sums, as ratios in
 #                one run (BENCH_MIB=512)
-# make clean     removes build/; what rt has proved stays in target/
+# make clean     removes build/; what rt has proved stays in crates/*/out/
 version = $(shell sed -n 's/^\#define BUMBAZEEL_VERSION_$(1) //p' include/bumbazeel.h)
 VERSION := $(call version,MAJOR).$(call version,MINOR).$(call version,PATCH)
 # While MAJOR is 0, functions may leave with a new MINOR: a program is given no other library than one of the MINOR that it was linked with.
@@ -32,10 +32,7 @@ COMPLETIONDIR ?= $(PREFIX)/share/bash-completion/completions
 all: build/libbumbazeel.a build/libbumbazeel.so build/bumbazeel
 
 # The library is made only of what is proved, so its proofs are among what it is made from.
-PROVED := crates.txt $(wildcard crates/*/src/*.rt crates/*/specs/*.antt crates/*/proofs/*.antt crates/*/proofs/*/*.antt)
-
-# The crates whose functions are the library's.
-PARTS := answer_boundary host_boundary controller_boundary sheet_boundary
+PROVED := crates.txt $(wildcard $(foreach place,src/*.rt specs/*.antt proofs/*.antt proofs/*/*.antt proofs/*/*/*.antt,crates/*/$(place)))
 
 # The kit compiles for x86-64, whatever machine proves.
 COMPILED_FOR ?= x86_64
@@ -44,11 +41,11 @@ linkable:
 	@case "$$($(CC) -dumpmachine)" in $(COMPILED_FOR)*) ;; *) \
 		echo "the library is compiled for $(COMPILED_FOR), and $(CC) makes programs for $$($(CC) -dumpmachine): set CC and AR to a cross compiler's" >&2; exit 1;; esac
 
+# The crate bumbazeel is the static library: its exports are the functions of the header file, over the crates of the boundary.
 build/libbumbazeel.a: $(PROVED) | linkable
 	@mkdir -p build
-	$(foreach part,$(PARTS),rt staticlib $(part) && (cd build && $(AR) x ../target/staticlib/lib$(part).a) &&) true
-	rm -f $@
-	$(AR) rcs $@ $(PARTS:%=build/%.o)
+	cd crates/bumbazeel && rt lib
+	cp crates/bumbazeel/out/libbumbazeel.a $@
 
 # The version, and so the name, stands in the header file.
 build/libbumbazeel.so: build/libbumbazeel.a program/exports.map include/bumbazeel.h Makefile
