@@ -1,7 +1,7 @@
 # make           builds the library, static and shared, and the program, in build/
 # make install   puts them in place, with header, pkg-config file, man page and bash completion (PREFIX=/usr/local DESTDIR=)
 # make uninstall takes them away again
-# make test      proves every crate from nothing, tries the must-fail edits, runs the programs and the outside comparisons
+# make test      proves every crate, tries the must-fail edits, runs the programs (rt ci), and then the outside comparisons
 # make sanitize  runs the program's tests with the address and undefined-behaviour sanitizers
 # make valgrind  runs the program's tests under valgrind
 # make faults    lets collections meet every fault, one at a time: failing system calls and commands, signals (some minutes)
