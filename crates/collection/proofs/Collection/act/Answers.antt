@@ -1,13 +1,9 @@
 -- `collection::Collection::act` meets its contract: an ending is the definition's, and every other move sends.
 -- Assumes nothing.
 use Prim.Native.Nat.{◌+◌}
-use mathlib.Core.Path.{◌≡◌, refl, ◌∙◌}
-use mathlib.Core.List.{[], ◌∷◌}
-use denote.Enum.Declared.{tag_of}
-use types.Run.{OneOf, miss}
-use Rattle.judgement.specs.contracts.Move.{the_type}
+use mathlib.Core.Path.{◌≡◌, ◌∙◌}
 use Rattle.judgement.specs.declared.Move.{Move}
-use Rattle.judgement.specs.declared.Move.TheVariants.{End, Open, More, Skip, Acknowledge}
+use Rattle.judgement.specs.declared.Move.TheVariants.{Open, More, Skip, Acknowledge}
 use Rattle.turns.specs.declared.Turn.{Turn}
 use Rattle.collection.specs.declared.Collection.{Collection}
 use Rattle.collection.specs.Collection.{turned_to, sends, act_of}
