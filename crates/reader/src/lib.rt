@@ -74,14 +74,14 @@ pub fn start<'a>(copy: &'a [u8]) -> Reader<'a>
 
 // The block at the reader's place.
 pub fn part<'a>(r: Reader<'a>) -> &'a [u8]
-    ensures { (result.now ≡ block_at r.entry.copy.now r.entry.at) × (result.ref_ptr ≡ part_at r.entry.copy.ptr (length r.entry.copy.now) r.entry.at) }
+    ensures { (result.now ≡ block_at r.entry.copy.now r.entry.at) × (result.ref_ptr ≡ part_at r.entry.copy.ref_ptr (length r.entry.copy.now) r.entry.at) }
 {
     block_at(r.copy, r.at)
 }
 
 // The next block, and the reader after it: at the end no block, and the reader as it was.
 pub fn next<'a>(r: Reader<'a>) -> Handed<'a>
-    ensures { ((result.part.now ≡ block_at r.entry.copy.now r.entry.at) × (result.part.ptr ≡ part_at r.entry.copy.ptr (length r.entry.copy.now) r.entry.at)) × ((result.more ≡ more_at (length r.entry.copy.now) r.entry.at) × (result.reader ≡ moved_on r.entry)) }
+    ensures { ((result.part.now ≡ block_at r.entry.copy.now r.entry.at) × (result.part.ref_ptr ≡ part_at r.entry.copy.ref_ptr (length r.entry.copy.now) r.entry.at)) × ((result.more ≡ more_at (length r.entry.copy.now) r.entry.at) × (result.reader ≡ moved_on r.entry)) }
 {
     let place = place_at(r.copy.len(), r.at);
     let part = part(r);
