@@ -16,7 +16,8 @@ use Rattle.collection.specs.Collection.{setup_of}
 use Rattle.collection.specs.Steps.{setup_refused}
 use Rattle.verdicts.specs.Accepted.{unless_disagree}
 use Rattle.controller.specs.Controller.{Candidate, lent_by}
-use Rattle.controller.specs.Laws.{asked, command_answer_lem}
+use Rattle.controller.specs.Asked.{asked}
+use Rattle.controller.proofs.Laws.{command_answer_lem}
 use Rattle.sources.specs.Source.{Turn, for_lent}
 use Rattle.demand3.specs.Bench.{Event, Loan, controller_source}
 use Rattle.demand3.specs.Own.{not_four}

@@ -19,7 +19,7 @@ use Rattle.records.specs.declared.Identity.{Identity}
 use Rattle.records.specs.Records.{identity_ok, fresh_of}
 use Rattle.records.specs.Back.{Typed, fresh_typed}
 use Rattle.controller.specs.Controller.{World, world, Candidate, Outcome, command_of, capture_of, drop_of}
-use Rattle.controller.specs.Laws.{command_typed, captured_typed, dropped_typed, refusal_changes_nothing, capture_refusal_changes_nothing, drop_refusal_changes_nothing}
+use Rattle.controller.proofs.Laws.{command_typed, captured_typed, dropped_typed, refusal_changes_nothing, capture_refusal_changes_nothing, drop_refusal_changes_nothing}
 use Rattle.shared_layouts.specs.Layouts.{most_caps, caps_byte, caps_of}
 use Rattle.shared_layouts.specs.Back.{caps_most}
 use Rattle.record_layout.specs.Layout.{record_marks, record_bytes, record_at, record_intact}

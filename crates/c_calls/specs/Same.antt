@@ -22,7 +22,8 @@ use Rattle.collection.specs.Collection.{setup_of, step_of, copy_after}
 use Rattle.collection.specs.Steps.{setup_taken}
 use Rattle.verdicts.specs.Verdicts.{capture_answer}
 use Rattle.controller.specs.Controller.{World, world, Candidate, Outcome, host_captured, controller_captured, lent_by, command_of, capture_answered, capture_of, drop_of}
-use Rattle.controller.specs.Laws.{asked, command_frame, drop_frame}
+use Rattle.controller.specs.Asked.{asked}
+use Rattle.controller.proofs.Laws.{command_frame, drop_frame}
 use Rattle.runs.specs.Run.{given}
 use Rattle.runs.specs.Counted.{step_counts}
 use Rattle.sources.specs.Source.{Source, ours, Done, Turn, Stand, Counters, changed, heard, for_lent, fine, data_of, happens as runHappens, happen as runHappen, hears, turn_by, run, begun, collected}
@@ -37,7 +38,7 @@ use Rattle.next_layout.specs.Layout.{kind_of, next_bytes}
 use Rattle.host_boundary.specs.Boundary.{step_at}
 use Rattle.host_boundary.specs.Laws.{step_intact}
 use Rattle.controller_boundary.specs.Boundary.{CommandAnswer, command_at, capture_at, drop_at}
-use Rattle.controller_boundary.specs.Laws.{command_intact, capture_intact, drop_intact}
+use Rattle.controller_boundary.proofs.Laws.{command_intact, capture_intact, drop_intact}
 use Rattle.c_calls.specs.Calls.{Controller, command, capture, drop, commanded, after, captures_by, drops_by, Program, kind_in, words_in, judges_in, bytes_in, data_in, steps, own, happens, happen, turn, turns, begins, program}
 use Rattle.c_calls.specs.State.{step_typed, taken_typed, chained, step_copy, step_follows}
 use Rattle.c_calls.specs.Record.{command_chained, capture_chained, drop_chained}

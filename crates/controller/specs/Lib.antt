@@ -1,3 +1,2 @@
 pub mod Controller
-pub mod Steps
-pub mod Laws
+pub mod Asked

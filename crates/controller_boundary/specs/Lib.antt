@@ -1,3 +1,1 @@
 pub mod Boundary
-pub mod Steps
-pub mod Laws

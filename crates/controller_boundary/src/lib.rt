@@ -2,7 +2,7 @@
 //
 // It rests on shared_layouts and record_layout for the structs, and on answers, records and controller for the work. It promises
 // each function's answer and every lent byte afterwards, for all arguments, as an equation with the definitions that those crates'
-// contracts cite (specs/Boundary.antt). A damaged record is refused, and what is refused changes nothing (specs/Laws.antt). A struct of
+// contracts cite (specs/Boundary.antt). A damaged record is refused, and what is refused changes nothing (proofs/Laws.antt). A struct of
 // the header file is an array of its bytes here, and a pointer with a length is a slice. No store or buffer is moved but by the call that
 // serves it.
 #![tactic(auto)]

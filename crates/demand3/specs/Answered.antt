@@ -23,8 +23,9 @@ use Rattle.verdicts.specs.declared.Lent.{Lent}
 use Rattle.verdicts.specs.Verdicts.{candidate_ok, field_bad, last_after, command_answer}
 use Rattle.verdicts.specs.Accepted.{Fair, accepts, beyond_refused, candidate_whole}
 use Rattle.controller.specs.Controller.{World, Candidate, store_for, page_of, host_captured, outcome, Outcome, lent_by, before, sent_of, afterwards, command_of}
-use Rattle.controller.specs.Steps.{captured, agreed_fits}
-use Rattle.controller.specs.Laws.{Agrees, create_typed, asked, verdict, command_done, command_refused}
+use Rattle.controller.proofs.Steps.{captured, agreed_fits}
+use Rattle.controller.specs.Asked.{Agrees, asked, verdict}
+use Rattle.controller.proofs.Laws.{create_typed, command_done, command_refused}
 
 -- what a collection asks of a controller at setup, and what its own commands are lent
 pub record Ready (w : World) (bytes : ℕ) (buf : List ℕ) : Type 0 where

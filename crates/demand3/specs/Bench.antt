@@ -6,7 +6,7 @@ use Rattle.answers.specs.Answers.{success}
 use Rattle.pages.specs.Pages.{host_page, controller_page}
 use Rattle.words.specs.declared.Words.{Words}
 use Rattle.controller.specs.Controller.{World, Candidate, command_of, capture_of, drop_of}
-use Rattle.controller.specs.Laws.{asked}
+use Rattle.controller.specs.Asked.{asked}
 use Rattle.sources.specs.Source.{Source, Done}
 
 -- what may happen: a command of any host, of any words, with any candidate and any buffer; a capture on 08h with any candidate; or a drop, as a

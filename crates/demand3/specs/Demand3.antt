@@ -20,7 +20,8 @@ use Rattle.collection.specs.declared.Finish.{Finish}
 use Rattle.collection.specs.declared.Next.TheVariants.{End as Ends, Refuse}
 use Rattle.verdicts.specs.Accepted.{unless_disagree}
 use Rattle.controller.specs.Controller.{World, lent_by}
-use Rattle.controller.specs.Laws.{asked, command_answer_lem}
+use Rattle.controller.specs.Asked.{asked}
+use Rattle.controller.proofs.Laws.{command_answer_lem}
 use Rattle.runs.specs.Run.{most_chunks}
 use Rattle.sources.specs.Source.{Collector, ours, Turn, Stand, for_lent, collected}
 use Rattle.sources.specs.Promise.{Told, succeeded, lacked, unreached, withdrew, empty, noticed, most_commands, Finished}

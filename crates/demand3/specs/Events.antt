@@ -21,8 +21,9 @@ use Rattle.plans.specs.declared.Plan.{Plan}
 use Rattle.plans.specs.Plans.{setup_answer, area_bytes}
 use Rattle.completions.specs.Completions.{shows_none}
 use Rattle.controller.specs.Controller.{World, world, Candidate, Outcome, store_for, host_captured, controller_captured, acknowledges, cleared, before, afterwards, capture_of, capture_answered, lent_by, host_dropped, drop_of}
-use Rattle.controller.specs.Steps.{create_host, host_stays, captured, no_capture}
-use Rattle.controller.specs.Laws.{asked, verdict, command_done, command_refused, command_agrees, command_typed, captured_agrees, captured_typed, dropped_agrees, dropped_typed}
+use Rattle.controller.proofs.Steps.{create_host, host_stays, captured, no_capture}
+use Rattle.controller.specs.Asked.{asked, verdict}
+use Rattle.controller.proofs.Laws.{command_done, command_refused, command_agrees, command_typed, captured_agrees, captured_typed, dropped_agrees, dropped_typed}
 use Rattle.demand3.specs.Bench.{Event, Sent, Taken, Dropped, act_of, captures_of, drops_of}
 use Rattle.demand3.specs.Shown.{generation_for, shows_for, wanted_area, Good, plan_page, area_stored}
 

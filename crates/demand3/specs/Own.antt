@@ -33,7 +33,8 @@ use Rattle.phases.specs.Asked.{start_of, chunk_in, chunk_blocks, inside_by, expe
 use Rattle.completions.specs.Completions.{seen_of}
 use Rattle.phases.specs.declared.Phase.TheVariants.{Chunk}
 use Rattle.controller.specs.Controller.{World, Candidate, Outcome, outcome, lent_by, afterwards, host_captured, command_of, store_for, page_of}
-use Rattle.controller.specs.Laws.{asked, command_answer_lem, refusal_changes_nothing}
+use Rattle.controller.specs.Asked.{asked}
+use Rattle.controller.proofs.Laws.{command_answer_lem, refusal_changes_nothing}
 use Rattle.demand3.specs.Answered.{header_long, Ready, Allowed, header_allowed, sends, asked_is, valid, header_taken, create_taken, last_read, read_done, own_read, own_header, own_create, own_blocks, retained}
 use Rattle.sources.specs.Source.{for_lent}
 use Rattle.sources.specs.Keeps.{Header}

@@ -22,7 +22,7 @@ use Rattle.plans.specs.Limits.{plan_taken, plan_limits}
 use Rattle.plans.specs.Plans.{plan_tests, setup_answer, area_last, area_bytes}
 use Rattle.completions.specs.Completions.{generation_of, seen_of}
 use Rattle.controller.specs.Controller.{World, store_for, page_of}
-use Rattle.controller.specs.Laws.{Agrees}
+use Rattle.controller.specs.Asked.{Agrees}
 use Rattle.demand3.specs.Answered.{header_long, own_blocks}
 
 -- the page's own generation

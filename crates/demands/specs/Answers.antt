@@ -32,7 +32,8 @@ use Rattle.refusals.specs.Refusals.{first_refusal}
 use Rattle.collection.specs.Collection.{valid_state, completion_fits, refusal_of, look_of, move_of, setup_of, step_of, answer_of}
 use Rattle.collection.specs.Steps.{makes, setup_taken, setup_refused, refused_step, taken_step}
 use Rattle.controller.specs.Controller.{World, Candidate, lent_by, command_of, capture_answered, capture_of, drop_of}
-use Rattle.controller.specs.Laws.{asked, command_answer_lem}
+use Rattle.controller.specs.Asked.{asked}
+use Rattle.controller.proofs.Laws.{command_answer_lem}
 
 -- a number is one of these
 abbrev pub among : List ℕ → ℕ → Bool

@@ -26,8 +26,9 @@ use Rattle.records.specs.Back.{Typed, record_reads_back}
 use Rattle.serving.specs.Serving.{page_bytes, window_of, window_length}
 use Rattle.verdicts.specs.Accepted.{Accepted, accepted}
 use Rattle.controller.specs.Controller.{World, Candidate, store_for, page_of, host_captured, before, sent_of, Outcome, lent_by, command_of}
-use Rattle.controller.specs.Steps.{captured, no_capture, agreed_fits}
-use Rattle.controller.specs.Laws.{Agrees, asked, command_answer_lem, command_done, create_agrees, create_typed}
+use Rattle.controller.proofs.Steps.{captured, no_capture, agreed_fits}
+use Rattle.controller.specs.Asked.{Agrees, asked}
+use Rattle.controller.proofs.Laws.{command_answer_lem, command_done, create_agrees, create_typed}
 use Rattle.demand3.specs.Answered.{header_long}
 
 -- the front of a window from 0 on is the header

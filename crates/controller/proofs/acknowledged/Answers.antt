@@ -1,6 +1,6 @@
 -- `controller::acknowledged` meets its contract: the branch is the definition's choice.
 -- Assumes nothing.
-use Rattle.controller.specs.Steps.{clears, keeps}
+use Rattle.controller.proofs.Steps.{clears, keeps}
 use Rattle.controller.proofs.acknowledged.Goals as goal
 
 pub returns-then-clears : goal.returns-then-clears

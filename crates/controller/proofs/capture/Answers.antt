@@ -1,7 +1,7 @@
--- `controller::capture` meets its contract: both paths are steps of specs/Steps.antt.
+-- `controller::capture` meets its contract: both paths are steps of proofs/Steps.antt.
 -- Assumes nothing.
 use Rattle.controller.specs.Controller.{world, candidate_of}
-use Rattle.controller.specs.Steps.{capture_refused_is, captured_is}
+use Rattle.controller.proofs.Steps.{capture_refused_is, captured_is}
 use Rattle.controller.proofs.capture.Goals as goal
 
 pub returns-then-answer-ne-SUCCESS : goal.returns-then-answer-ne-SUCCESS

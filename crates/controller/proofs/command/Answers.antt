@@ -1,7 +1,7 @@
 -- `controller::command` meets its contract: judged, made, sent and acknowledged; a refusal leaves everything as it is.
 -- Assumes nothing.
 use Rattle.controller.specs.Controller.{world, candidate_of}
-use Rattle.controller.specs.Steps.{create_host, command_is, command_accepted, refused_is, served_is}
+use Rattle.controller.proofs.Steps.{create_host, command_is, command_accepted, refused_is, served_is}
 use Rattle.controller.proofs.command.Goals as goal
 
 pub returns-then-answer-ne-SUCCESS : goal.returns-then-answer-ne-SUCCESS

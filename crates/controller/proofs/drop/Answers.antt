@@ -1,7 +1,7 @@
--- `controller::drop` meets its contract: both paths are steps of specs/Steps.antt.
+-- `controller::drop` meets its contract: both paths are steps of proofs/Steps.antt.
 -- Assumes nothing.
 use Rattle.controller.specs.Controller.{world}
-use Rattle.controller.specs.Steps.{dropped_is, drop_refused_is}
+use Rattle.controller.proofs.Steps.{dropped_is, drop_refused_is}
 use Rattle.controller.proofs.drop.Goals as goal
 
 pub returns-then-agrees : goal.returns-then-agrees

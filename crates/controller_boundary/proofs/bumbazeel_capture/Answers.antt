@@ -2,7 +2,7 @@
 -- Assumes nothing.
 use Rattle.std.proofs.Common.{ap, not}
 use Rattle.controller.specs.Controller.{candidate_of}
-use Rattle.controller_boundary.specs.Steps.{capture_damaged, capture_done}
+use Rattle.controller_boundary.proofs.Steps.{capture_damaged, capture_done}
 use Rattle.controller_boundary.proofs.bumbazeel_capture.Goals as goal
 
 pub returns-then-not-record_intact : goal.returns-then-not-record_intact

@@ -3,7 +3,7 @@
 use Rattle.std.proofs.Common.{ap, not}
 use Rattle.controller.specs.Controller.{candidate_of}
 use Rattle.controller_boundary.specs.Boundary.{words_of}
-use Rattle.controller_boundary.specs.Steps.{command_damaged, command_done}
+use Rattle.controller_boundary.proofs.Steps.{command_damaged, command_done}
 use Rattle.controller_boundary.proofs.bumbazeel_command.Goals as goal
 
 pub returns-then-not-record_intact : goal.returns-then-not-record_intact

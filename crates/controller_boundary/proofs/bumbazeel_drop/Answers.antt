@@ -1,7 +1,7 @@
 -- `controller_boundary::bumbazeel_drop` meets its contract: a damaged record is refused, and any other drop leaves what the outcome says.
 -- Assumes nothing.
 use Rattle.std.proofs.Common.{ap, not}
-use Rattle.controller_boundary.specs.Steps.{drop_damaged, drop_done}
+use Rattle.controller_boundary.proofs.Steps.{drop_damaged, drop_done}
 use Rattle.controller_boundary.proofs.bumbazeel_drop.Goals as goal
 
 pub returns-then-not-record_intact : goal.returns-then-not-record_intact

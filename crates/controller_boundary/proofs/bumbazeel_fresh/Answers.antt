@@ -1,7 +1,7 @@
 -- `controller_boundary::bumbazeel_fresh` meets its contract: a fresh record agrees with no stores just where its identity is fine.
 -- Assumes nothing.
 use Rattle.controller_boundary.specs.Boundary.{identity_of}
-use Rattle.controller_boundary.specs.Steps.{fresh_is, fresh_is_not}
+use Rattle.controller_boundary.proofs.Steps.{fresh_is, fresh_is_not}
 use Rattle.controller_boundary.proofs.bumbazeel_fresh.Goals as goal
 
 pub returns-then-caps-agrees : goal.returns-then-caps-agrees

@@ -1,6 +1,6 @@
 -- `controller_boundary::record_after` meets its contract: a success writes the record's bytes, and any other answer keeps them.
 -- Assumes nothing.
-use Rattle.controller_boundary.specs.Steps.{next_record, kept_record}
+use Rattle.controller_boundary.proofs.Steps.{next_record, kept_record}
 use Rattle.controller_boundary.proofs.record_after.Goals as goal
 
 pub returns-then-answer-eq-SUCCESS : goal.returns-then-answer-eq-SUCCESS

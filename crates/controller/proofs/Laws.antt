@@ -15,21 +15,14 @@ use Rattle.trimming.specs.Trimming.{top_of, trimmed_to, trim_of}
 use Rattle.trimming.specs.Trimmed.{trim_keeps_rule, trim_greatest, trim_three}
 use Rattle.words.specs.declared.Command.{Command}
 use Rattle.words.specs.declared.Words.{Words}
-use Rattle.words.specs.Words.{read_of}
 use Rattle.records.specs.Records.{agrees_with}
 use Rattle.records.specs.Back.{StoreFits, Typed, agreed, agrees_where, agreed_typed}
-use Rattle.verdicts.specs.Verdicts.{command_answer, capture_answer}
+use Rattle.verdicts.specs.Verdicts.{capture_answer}
 use Rattle.verdicts.specs.Accepted.{Whole, Accepted, accepted, Captures, captures}
 use Rattle.captures.specs.Captures.{cleared_of, dropped_of}
-use Rattle.controller.specs.Steps.{create_host, host_stays, captured, no_capture}
+use Rattle.controller.specs.Asked.{asked, verdict, Agrees}
+use Rattle.controller.proofs.Steps.{create_host, host_stays, captured, no_capture}
 use Rattle.controller.specs.Controller.{World, Candidate, host_captured, controller_captured, outcome, Outcome, class_for, lent_by, acknowledges, cleared, before, sent_of, afterwards, answered, command_of, capture_answered, capture_of, host_dropped, drop_of}
-
--- what the words say, and the answer to that
-abbrev pub asked : World → Words → Command
-asked w words = read_of w.own.caps.extended words
-
-abbrev pub verdict : World → Candidate → Words → List ℕ → ℕ
-verdict w candidate words buf = command_answer w.own (asked w words) candidate.last (lent_by w candidate buf)
 
 -- ---- a command by its answer
 
@@ -85,9 +78,6 @@ command_frame P w candidate words buf same made gone =
     (λ n. rw (command_refused w candidate words buf n) same)
 
 -- ---- an agreeing world stays one
-
-abbrev pub Agrees : World → Type 0
-Agrees w = agrees_with w.own (length w.host) (length w.controller) ≡ true
 
 -- what a capture stores keeps the rule and lies in its store
 stored_fits : (w : World) (candidate : Candidate) (mcda : ℕ) (store : List ℕ)

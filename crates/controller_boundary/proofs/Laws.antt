@@ -8,11 +8,11 @@ use Rattle.choices.specs.Tests.{by_test}
 use Rattle.answers.specs.Answers.{success}
 use Rattle.words.specs.declared.Words.{Words}
 use Rattle.controller.specs.Controller.{World, world, Candidate, Outcome, command_of, capture_of, drop_of}
-use Rattle.controller.specs.Laws.{refusal_changes_nothing, capture_refusal_changes_nothing}
+use Rattle.controller.proofs.Laws.{refusal_changes_nothing, capture_refusal_changes_nothing}
 use Rattle.record_layout.specs.Layout.{record_at, record_intact}
 use Rattle.record_layout.specs.Back.{record_intact_lem}
 use Rattle.controller_boundary.specs.Boundary.{record_after, command_at, capture_at, drop_at}
-use Rattle.controller_boundary.specs.Steps.{kept_record}
+use Rattle.controller_boundary.proofs.Steps.{kept_record}
 
 module _ (r h k : List ℕ) (candidate : Candidate) where
   -- a command that is no success leaves the record's bytes, the host store and the buffer as lent
