@@ -39,7 +39,17 @@ pub extern "C" fn bumbazeel_command(
         (candidate_of last.now bytes.now reason.now)
         (words_of words.now) buffer.old }
 {
-    controller_boundary::bumbazeel_command(own, host_store, controller_store, last, bytes, reason, words, buffer, class)
+    controller_boundary::bumbazeel_command(
+        own,
+        host_store,
+        controller_store,
+        last,
+        bytes,
+        reason,
+        words,
+        buffer,
+        class,
+    )
 }
 
 // Takes a capture of the controller's own: writes record and controller store where it succeeds.
