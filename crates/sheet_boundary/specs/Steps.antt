@@ -6,7 +6,7 @@ use Rattle.answers.specs.Answers.{success, bad_setup}
 use Rattle.sheets.specs.declared.Sheet.{Sheet}
 use Rattle.sheets.specs.declared.Entered.{Entered}
 use Rattle.sheets.specs.declared.Mean.{Mean}
-use Rattle.sheets.specs.Sheets.{add_of, mean_of}
+use Rattle.sheets.specs.Sheets.{add_of, no_mean, mean_of}
 use Rattle.entries.specs.declared.Run.{Run}
 use Rattle.entries.specs.Entries.{enter_of}
 use Rattle.sheet_layout.specs.Layout.{sheet_bytes, sheet_at, sheet_intact, mean_bytes}
@@ -46,6 +46,11 @@ unfolding mean_at
 mean_told b et p es em f = (rw (← et, p), rw (← et, p) (f ∙ ap (λ (m : Mean). mean_bytes m) (em ∙ ap (λ (y : Sheet). mean_of y) es)))
 
 -- no mean is zeros
-pub mean_untold : (b : List ℕ) {t : Bool} → t ≡ sheet_intact b → t ≡ false → (bad_setup ≡ mean_answer b) × (replicate 24 0 ≡ mean_bytes (mean_at b))
+pub mean_zeros : (b : List ℕ) {t : Bool} → t ≡ sheet_intact b → t ≡ false → (bad_setup ≡ mean_answer b) × (replicate 24 0 ≡ mean_bytes (mean_at b))
 unfolding mean_at mean_bytes
-mean_untold b et p = (rw (← et, p), rw (← et, p) refl)
+mean_zeros b et p = (rw (← et, p), rw (← et, p) refl)
+
+pub mean_untold : (b : List ℕ) {t : Bool} {m : Mean} {out : List ℕ} → t ≡ sheet_intact b → t ≡ false → m ≡ no_mean → out ≡ mean_bytes m
+    → (bad_setup ≡ mean_answer b) × (out ≡ mean_bytes (mean_at b))
+unfolding mean_at
+mean_untold b et p em f = (rw (← et, p), rw (← et, p) (f ∙ ap (λ (m : Mean). mean_bytes m) em))

@@ -1,6 +1,6 @@
 -- What the code's calls come to.
 -- Assumes nothing.
-use Rattle.std.specs.Prelude.{◌≡◌, ℕ, ◌+◌, ◌-◌, ◌%◌, ◌^◌, ◌≤◌, Bool, true, false, ◌&&◌, List, ◌≢◌, nat_le, slice_index, refl}
+use Rattle.std.specs.Prelude.{◌≡◌, ℕ, ◌+◌, ◌-◌, ◌%◌, ◌^◌, ◌≤◌, Bool, true, false, ◌&&◌, List, [], ◌∷◌, ◌≢◌, nat_le, slice_index, refl}
 use Rattle.std.proofs.Common.{sym, ap, ◌∙◌, arith, mod-eq_of_lt, leb-true, leb-false, le-leb, eq-eqb, ne_eqb}
 use mir.Val.{bool_byte}
 use Rattle.std.proofs.lemmas.Bool.{lt-leb}
@@ -53,11 +53,27 @@ exact_sums a b e =
       exact (slice_index a.runs 7) (slice_index b.runs 7) (each _ e 10),
     )
 
+-- the sums one by one
+pub runs_are : (p q : List ℕ) {n0 n1 n2 n3 n4 n5 n6 n7 : ℕ}
+    → n0 ≡ wrap (slice_index p 0) (slice_index q 0) → n1 ≡ wrap (slice_index p 1) (slice_index q 1) → n2 ≡ wrap (slice_index p 2) (slice_index q 2) → n3 ≡ wrap (slice_index p 3) (slice_index q 3)
+    → n4 ≡ wrap (slice_index p 4) (slice_index q 4) → n5 ≡ wrap (slice_index p 5) (slice_index q 5) → n6 ≡ wrap (slice_index p 6) (slice_index q 6) → n7 ≡ wrap (slice_index p 7) (slice_index q 7)
+    → n0 ∷ n1 ∷ n2 ∷ n3 ∷ n4 ∷ n5 ∷ n6 ∷ n7 ∷ [] ≡ wrapped_runs p q
+unfolding wrapped_runs
+runs_are p q e0 e1 e2 e3 e4 e5 e6 e7 = rw (e0, e1, e2, e3, e4, e5, e6, e7)
+
 pub sums_are : (a b : Sheet) {runs : List ℕ} {blocks commands failed : ℕ} → runs ≡ wrapped_runs a.runs b.runs
     → blocks ≡ wrap a.blocks b.blocks → commands ≡ wrap a.commands b.commands → failed ≡ wrap a.failed b.failed
     → record { runs = runs; blocks = blocks; commands = commands; failed = failed } ≡ wrapped a b
 unfolding wrapped
 sums_are a b r k c f = rw (r, k, c, f)
+
+-- the tests one by one
+pub runs_fit_is : (p q : List ℕ) {t0 t1 t2 t3 t4 t5 t6 t7 : Bool}
+    → t0 ≡ fits (slice_index p 0) (slice_index q 0) → t1 ≡ fits (slice_index p 1) (slice_index q 1) → t2 ≡ fits (slice_index p 2) (slice_index q 2) → t3 ≡ fits (slice_index p 3) (slice_index q 3)
+    → t4 ≡ fits (slice_index p 4) (slice_index q 4) → t5 ≡ fits (slice_index p 5) (slice_index q 5) → t6 ≡ fits (slice_index p 6) (slice_index q 6) → t7 ≡ fits (slice_index p 7) (slice_index q 7)
+    → t0 && t1 && t2 && t3 && t4 && t5 && t6 && t7 ≡ runs_fit p q
+unfolding runs_fit holds
+runs_fit_is p q e0 e1 e2 e3 e4 e5 e6 e7 = rw (e0, e1, e2, e3, e4, e5, e6, e7)
 
 pub all_fit_is : (a b : Sheet) {k c f r : Bool} → k ≡ fits a.blocks b.blocks → c ≡ fits a.commands b.commands
     → f ≡ fits a.failed b.failed → r ≡ runs_fit a.runs b.runs → k && c && f && r ≡ all_fit a b

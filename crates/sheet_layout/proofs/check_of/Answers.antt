@@ -3,7 +3,7 @@
 use Rattle.std.proofs.Common.{arith}
 use Rattle.sheets.specs.Turns.{turn, turned}
 use Rattle.sheet_layout.specs.Layout.{mark}
-use Rattle.sheet_layout.specs.Steps.{check_is}
+use Rattle.sheet_layout.specs.Steps.{check_by_turns}
 use Rattle.sheet_layout.proofs.check_of.Invariants.{step}
 use Rattle.sheet_layout.proofs.check_of.Goals as goal
 
@@ -16,5 +16,5 @@ pub returns : goal.returns
 returns c =
     let l = c.loop-i in
     let s = c.args.s in
-    check_is s (turned (step s.runs) mark l.i (omega arith) l.invariant.1) c.wrapping_add_u64-blocks.ensures.value
+    check_by_turns s (turned (step s.runs) mark l.i (omega arith) l.invariant.1) c.wrapping_add_u64-blocks.ensures.value
     c.wrapping_add_u64-commands.ensures.value c.wrapping_add_u64.ensures.value
