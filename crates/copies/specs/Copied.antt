@@ -111,10 +111,10 @@ pub part_replaced : (s d : List ℕ) (a n m : ℕ) → a + n ≤ length s → le
 part_replaced s d a n m h q f ys e =
     let len : length ys ≡ n = rw (e, f) (simp (length-take, length-drop) (omega arith)) in
     let whole : take a d ++ (ys ++ drop m (drop a d)) ≡ put_at d a (take n (drop a s)) =
-        ap (λ (l : List ℕ). take a d ++ (ys ++ l)) (drop-drop m a d)
-        ∙ ap (λ (j : ℕ). take a d ++ (ys ++ drop (a + j) d)) (f ∙ sym len)
-        ∙ sym (put_fits d a ys (omega arith))
-        ∙ ap (λ (l : List ℕ). put_at d a l) (e ∙ ap (λ (j : ℕ). take j (drop a s)) f) in
+    ap (λ (l : List ℕ). take a d ++ (ys ++ l)) (drop-drop m a d)
+    ∙ ap (λ (j : ℕ). take a d ++ (ys ++ drop (a + j) d)) (f ∙ sym len)
+    ∙ sym (put_fits d a ys (omega arith))
+    ∙ ap (λ (l : List ℕ). put_at d a l) (e ∙ ap (λ (j : ℕ). take j (drop a s)) f) in
     subst (λ (l : List ℕ). CopiedPart s d l a n) (sym whole) (part_copied s d a n h q)
 
 -- ---- one copy after another
