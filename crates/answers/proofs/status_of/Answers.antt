@@ -1,7 +1,6 @@
 -- `answers::status_of` meets its contract: the arm of each answer gives the definition's status at that number, and any other answer
 -- fails all three of the definition's tests.
 -- Assumes nothing.
-use borrow.Author.Tests.{ne_eqb}
 use Rattle.answers.proofs.status_of.Goals as goal
 
 pub returns-in-0 : goal.returns-in-0

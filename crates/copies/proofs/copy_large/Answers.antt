@@ -1,10 +1,10 @@
 -- `copies::copy_large` meets its contract: the first `at` bytes agree with `src`, and the last part takes the rest.
 -- Assumes nothing.
 use mathlib.Core.Path.{◌≡◌}
-use Prim.Native.Nat.{◌+◌, ◌-◌, ◌≤◌}
+use Prim.Native.Nat.{◌+◌, ◌-◌}
 use native.Mathlib.Omega.{arith}
 use lib.ListN.{length}
-use Rattle.copies.specs.Copied.{CopiedPart, part_none, part_then, copied_whole}
+use Rattle.copies.specs.Copied.{part_none, part_then, copied_whole}
 use Rattle.copies.proofs.copy_large.Goals as goal
 
 pub loop-at-init : goal.loop-at-init

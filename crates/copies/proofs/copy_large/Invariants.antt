@@ -1,5 +1,5 @@
 use Rattle.std.proofs.Common.{◌≤◌, ◌-◌, length}
-use Rattle.copies.specs.Copied.{CopiedPart, CopiedFronts}
+use Rattle.copies.specs.Copied.{CopiedPart}
 use Rattle.copies.proofs.copy_large.Given as goal
 
 abbrev pub invariant-loop-at : goal.invariant-loop-at

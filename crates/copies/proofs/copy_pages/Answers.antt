@@ -1,9 +1,8 @@
 -- `copies::copy_pages` meets its contract: after i bytes of each page the first i of all four agree with `src`.
 -- Assumes nothing.
 use mathlib.Core.Path.{◌≡◌}
-use Prim.Native.Nat.{◌-◌, ◌≤◌, ◌%◌}
 use native.Mathlib.Omega.{arith}
-use Rattle.copies.specs.Copied.{CopiedFronts, fronts_none, fronts_then, fronts_whole}
+use Rattle.copies.specs.Copied.{fronts_none, fronts_then, fronts_whole}
 use Rattle.copies.proofs.copy_pages.Goals as goal
 
 pub loop-i-init : goal.loop-i-init

@@ -1,5 +1,5 @@
 use Rattle.std.proofs.Common.{◌≤◌, ◌≡◌, ◌-◌, ◌%◌}
-use Rattle.copies.specs.Copied.{CopiedPart, CopiedFronts}
+use Rattle.copies.specs.Copied.{CopiedFronts}
 use Rattle.copies.proofs.copy_pages.Given as goal
 
 abbrev pub invariant-loop-i : goal.invariant-loop-i

@@ -1,5 +1,4 @@
 use Rattle.std.proofs.Common.{◌≤◌, ◌≡◌, ◌-◌, ◌++◌, length, drop, replicate}
-use Rattle.copies.specs.Copied.{CopiedPart, CopiedFronts}
 use Rattle.copies.proofs.zero.Given as goal
 
 abbrev pub invariant-loop-i : goal.invariant-loop-i
