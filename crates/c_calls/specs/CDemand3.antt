@@ -21,7 +21,8 @@ use Rattle.controller.specs.Controller.{World}
 use Rattle.runs.specs.Run.{given, most_chunks}
 use Rattle.sources.specs.Source.{ours, Turn, Stand, Counters}
 use Rattle.sources.specs.Promise.{noticed, most_commands, Finished}
-use Rattle.sources.specs.Few.{Among, among, noticed_few}
+use Rattle.sources.specs.Few.{Among}
+use Rattle.sources.proofs.Few.{among, noticed_few}
 use Rattle.demand3.specs.Bench.{Loan, controller_source}
 use Rattle.demand3.specs.Demand3.{final, TrueEnding, succeeded_by, room_short, past_reach, gone, never_there, Demand3, demand3}
 use Rattle.shared_layouts.specs.Layouts.{caps_of}

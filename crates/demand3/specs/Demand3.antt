@@ -25,8 +25,9 @@ use Rattle.controller.proofs.Laws.{command_answer_lem}
 use Rattle.runs.specs.Run.{most_chunks}
 use Rattle.sources.specs.Source.{Collector, ours, Turn, Stand, for_lent, collected}
 use Rattle.sources.specs.Promise.{Told, succeeded, lacked, unreached, withdrew, empty, noticed, most_commands, Finished}
-use Rattle.sources.specs.Demand.{demand, first_fair}
-use Rattle.sources.specs.Few.{Among, among, noticed_few}
+use Rattle.sources.proofs.Demand.{demand, first_fair}
+use Rattle.sources.specs.Few.{Among}
+use Rattle.sources.proofs.Few.{among, noticed_few}
 use Rattle.demand3.specs.Bench.{Loan, own_of, controller_source}
 use Rattle.demand3.specs.Shown.{shows_for, wanted_area, Good}
 use Rattle.demand3.specs.Own.{not_four}

@@ -25,7 +25,8 @@ use Rattle.collection.specs.declared.Stepped.{Stepped}
 use Rattle.collection.specs.Copied.{copy_length, ending_copy}
 use Rattle.runs.specs.Run.{Completion, given, called_for, most_chunks}
 use Rattle.runs.specs.Counted.{step_counts}
-use Rattle.runs.specs.Bound.{Reached, reached_ok, reached_more, step_reached, step_house}
+use Rattle.runs.specs.Bound.{Reached}
+use Rattle.runs.proofs.Bound.{reached_ok, reached_more, step_reached, step_house}
 use Rattle.sources.specs.Source.{Source, ours, Done, Stand, fine, data_of, stepped, hears}
 use Rattle.sources.specs.Keeps.{Keeps}
 use Rattle.sources.specs.Promise.{Told}

@@ -5,8 +5,6 @@ pub mod Inv
 pub mod Happened
 pub mod Heard
 pub mod Judged
-pub mod Chunks
 pub mod Turns
-pub mod Demand
 pub mod Few
 pub mod Lazy

@@ -22,13 +22,14 @@ use Rattle.collection.specs.declared.Next.{Next}
 use Rattle.collection.specs.declared.Next.TheVariants.{Send, End as Ends, Refuse}
 use Rattle.collection.specs.declared.Stepped.{Stepped}
 use Rattle.runs.specs.Run.{given, acknowledging, most_chunks}
-use Rattle.runs.specs.Bound.{Reached, reached_count, reached_more, old_chunks, begins}
+use Rattle.runs.specs.Bound.{Reached}
+use Rattle.runs.proofs.Bound.{reached_count, reached_more, old_chunks, begins}
 use Rattle.sources.specs.Source.{Source, ours, Turn, Stand, for_lent, happen, hears, turn_by, run, begun, collected}
 use Rattle.sources.specs.Keeps.{Keeps}
 use Rattle.sources.specs.Promise.{Told, most_commands, Promise, Finished}
 use Rattle.sources.specs.Inv.{Common, Over, Inv}
 use Rattle.sources.specs.Judged.{first_inv}
-use Rattle.sources.specs.Turns.{run_grows, no_lent_refusal, hears_counts, said_by, over_by, run_inv, going_counts}
+use Rattle.sources.proofs.Turns.{run_grows, no_lent_refusal, hears_counts, said_by, over_by, run_inv, going_counts}
 
 -- the bound of every plan that setup takes fits 64 bits
 pub bound_limit : (p : Plan) → setup_answer p ≡ success → (k : ℕ) → k < p.attempts → most_commands p k most4 ≤ 68718493697

@@ -1,0 +1,4 @@
+pub mod Bound
+pub mod Retained
+pub mod Acknowledged
+pub mod Held
