@@ -5,9 +5,9 @@
 // (specs/Faults.antt).
 #![tactic(auto)]
 
-ghost use Rattle.std.specs.Prelude.{◌≡◌, ◌≤◌};
+ghost use Rattle.std.specs.Prelude.{◌≡◌, ◌≤◌, leb};
 ghost use Rattle.choices.specs.Choice.{pick};
-ghost use Rattle.shared_layouts.specs.Layouts.{caps_byte, caps_of, fault_number, fault_by};
+ghost use Rattle.shared_layouts.specs.Layouts.{most_caps, caps_byte, caps_of, fault_number, fault_by};
 
 use header::Fault;
 use pages::Caps;
@@ -29,11 +29,19 @@ pub fn caps_byte(c: Caps) -> u8
     bit(c.extended, 1) + bit(c.telemetry, 2) + bit(c.da4s, 4) + bit(c.etdas, 8) + bit(c.mcdas, 16)
 }
 
+// A byte of five bits, which says capabilities.
+fn is_known(b: u8) -> bool
+    ensures { result ≡ leb b most_caps }
+{
+    let known = b <= MOST_CAPS;
+    known
+}
+
 // The capabilities that a byte says; none for a byte over 31.
 pub fn read_caps(b: u8) -> Caps
     ensures { result ≡ caps_of b }
 {
-    let known = b <= MOST_CAPS;
+    let known = is_known(b);
     Caps {
         extended: known & (b % 2 == 1),
         telemetry: known & (b / 2 % 2 == 1),
