@@ -2,7 +2,7 @@
 // include/bumbazeel.h that are lent nothing.
 //
 // It rests on answers, header and shared_layouts. It promises each function's answer, for all arguments, as an equation with the
-// definitions that those crates' contracts cite, and has none of its own.
+// definitions that those crates' contracts cite, and has none of its own. The numbers of their arguments and answers are the C interface.
 #![tactic(auto)]
 
 ghost use Rattle.std.specs.Prelude.{◌≡◌};
@@ -15,7 +15,7 @@ ghost use Rattle.shared_layouts.specs.Layouts.{fault_by};
 pub fn bumbazeel_class(page: u8) -> u8
     ensures { result ≡ class_of page }
 {
-    answers::class(page)
+    answers::class(page).number()
 }
 
 // The NVMe status of an answer as one number.

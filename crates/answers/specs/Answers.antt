@@ -1,8 +1,11 @@
 -- Document 01, "Answer numbers", and document 02, Q-10 and Q-12: the eighteen answers, and the NVMe status of those that have one.
 -- Assumes nothing.
-use Rattle.std.specs.Prelude.{ℕ, ◌+◌, ◌*◌, true, false, eqb}
+use Rattle.std.specs.Prelude.{ℕ, ◌+◌, ◌*◌, Option, Some, None, Result, Ok, Err, eqb}
 use Rattle.choices.specs.Choice.{pick}
 use Rattle.answers.specs.declared.Status.{Status}
+use Rattle.answers.specs.declared.Refusal.{Refusal}
+use Rattle.answers.specs.declared.Refusal.TheVariants.{InvalidField, InvalidLogPage, ShortBuffer, Disagree, BrokenCandidate, NoArea4, NoRoom, Nothing, BadSetup, AlreadyEnded, DoesNotFit, OutOfReach, TotalFull}
+use Rattle.answers.specs.Classes.{class_number}
 
 -- ---- the answers
 
@@ -78,6 +81,45 @@ out_of_reach = 19
 abbrev pub total_full : ℕ
 total_full = 20
 
+-- ---- refusals
+
+-- the paper's number of a refusal
+abbrev pub refusal_number : Refusal → ℕ
+refusal_number InvalidField = invalid_field
+refusal_number (InvalidLogPage class) = invalid_log_page
+refusal_number ShortBuffer = short_buffer
+refusal_number Disagree = disagree
+refusal_number BrokenCandidate = broken_candidate
+refusal_number NoArea4 = no_area4
+refusal_number NoRoom = no_room
+refusal_number Nothing = nothing
+refusal_number BadSetup = bad_setup
+refusal_number AlreadyEnded = already_ended
+refusal_number DoesNotFit = does_not_fit
+refusal_number OutOfReach = out_of_reach
+refusal_number TotalFull = total_full
+
+-- the number of the class that a refusal comes with: 0 with any but an invalid log page
+abbrev pub class_told : Refusal → ℕ
+class_told InvalidField = 0
+class_told (InvalidLogPage class) = class_number class
+class_told ShortBuffer = 0
+class_told Disagree = 0
+class_told BrokenCandidate = 0
+class_told NoArea4 = 0
+class_told NoRoom = 0
+class_told Nothing = 0
+class_told BadSetup = 0
+class_told AlreadyEnded = 0
+class_told DoesNotFit = 0
+class_told OutOfReach = 0
+class_told TotalFull = 0
+
+-- the paper's number of an answer: 0 with what was asked for, else its refusal's
+abbrev pub result_number : {A : Type 0} → Result A Refusal → ℕ
+result_number (Ok x) = success
+result_number (Err r) = refusal_number r
+
 -- ---- their statuses
 
 -- status code type 0h
@@ -89,15 +131,15 @@ abbrev pub command_specific : ℕ
 command_specific = 0x1
 
 -- the status with this status code type and status code
-abbrev pub nvme_status : ℕ → ℕ → Status
-nvme_status type code = record { given = true; sct = type; sc = code }
+abbrev pub nvme_status : ℕ → ℕ → Option Status
+nvme_status type code = Some (record { sct = type; sc = code })
 
 -- none: the answer refuses the call itself
-abbrev pub no_status : Status
-no_status = record { given = false; sct = 0; sc = 0 }
+abbrev pub no_status : Option Status
+no_status = None
 
 -- the status of an answer: generic 00h, generic 02h, command specific 09h, and none from answer 3 on
-abbrev pub status_of : ℕ → Status
+abbrev pub status_of : ℕ → Option Status
 status_of answer =
     pick (eqb answer success) (nvme_status generic 0x00)
     (pick (eqb answer invalid_field) (nvme_status generic 0x02)
@@ -109,5 +151,6 @@ abbrev pub no_number : ℕ
 no_number = 0xFFFF
 
 -- a status as one number, type * 256 + code
-abbrev pub status_number : Status → ℕ
-status_number s = pick s.given (256 * s.sct + s.sc) no_number
+abbrev pub status_number : Option Status → ℕ
+status_number (Some s) = 256 * s.sct + s.sc
+status_number None = no_number

@@ -2,6 +2,8 @@
 -- Assumes nothing.
 use Rattle.std.specs.Prelude.{ℕ, zero, suc, ◌+◌, ◌≡◌, refl, Bool, ◌&&◌, ◌||◌, [], ◌∷◌, map, leb, eqb}
 use Rattle.choices.specs.Choice.{pick}
+use Rattle.answers.specs.declared.PageClass.{PageClass}
+use Rattle.answers.specs.declared.PageClass.TheVariants.{Named, Elsewhere, Vendor, Reserved}
 
 -- an identifier from low to high, both included
 abbrev pub within : ℕ → ℕ → ℕ → Bool
@@ -28,6 +30,13 @@ vendor i = within 0xC0 0xFF i
 -- the class of an identifier: 0 named, 1 elsewhere, 2 vendor, and 3 reserved, which is the rest
 abbrev pub class_of : ℕ → ℕ
 class_of i = pick (named i) 0 (pick (elsewhere i) 1 (pick (vendor i) 2 3))
+
+-- the number of a class
+abbrev pub class_number : PageClass → ℕ
+class_number Named = 0
+class_number Elsewhere = 1
+class_number Vendor = 2
+class_number Reserved = 3
 
 -- how many identifiers below n have the class
 abbrev pub count_below : ℕ → ℕ → ℕ

@@ -7,8 +7,8 @@
 #![tactic(auto)]
 
 ghost use Rattle.std.specs.Prelude.{◌≡◌};
-ghost use Rattle.answers.specs.Answers.{nvme_status, no_status, status_of, status_number};
-ghost use Rattle.answers.specs.Classes.{class_of};
+ghost use Rattle.answers.specs.Answers.{nvme_status, status_of, status_number, refusal_number, class_told, result_number};
+ghost use Rattle.answers.specs.Classes.{class_of, class_number};
 
 // Success.
 pub const SUCCESS: u8 = 0;
@@ -52,62 +52,130 @@ const GENERIC: u8 = 0x0;
 // Status code type 1h.
 const COMMAND_SPECIFIC: u8 = 0x1;
 
-// An NVMe status: status code type and status code. Where none is given, both are 0.
-#[derive(Clone, Copy)]
+// What the identifier of a page says of it, by document 004: the page is named there, or in another specification; it is the vendor's; or it is reserved.
+#[derive(Clone, Copy, PartialEq, Eq)]
+pub enum PageClass {
+    Named,
+    Elsewhere,
+    Vendor,
+    Reserved,
+}
+
+impl PageClass {
+    // The paper's number of a class, 0 to 3.
+    pub fn number(self) -> u8
+        ensures { result ≡ class_number self }
+    {
+        match self {
+            PageClass::Named => 0,
+            PageClass::Elsewhere => 1,
+            PageClass::Vendor => 2,
+            PageClass::Reserved => 3,
+        }
+    }
+}
+
+// Why a call, or a plan made of a header, gives nothing. A bad header, whose fault is told with it, is a `NoPlan` of the crate completions, and what ends
+// a collection that has begun an `Ending` of the crate endings.
+#[derive(Clone, Copy, PartialEq, Eq)]
+pub enum Refusal {
+    InvalidField,
+    InvalidLogPage(PageClass),
+    ShortBuffer,
+    Disagree,
+    BrokenCandidate,
+    NoArea4,
+    NoRoom,
+    Nothing,
+    BadSetup,
+    AlreadyEnded,
+    DoesNotFit,
+    OutOfReach,
+    TotalFull,
+}
+
+impl Refusal {
+    // The paper's number of a refusal.
+    pub fn number(self) -> u8
+        ensures { result ≡ refusal_number self }
+    {
+        match self {
+            Refusal::InvalidField => INVALID_FIELD,
+            Refusal::InvalidLogPage(_) => INVALID_LOG_PAGE,
+            Refusal::ShortBuffer => SHORT_BUFFER,
+            Refusal::Disagree => DISAGREE,
+            Refusal::BrokenCandidate => BROKEN_CANDIDATE,
+            Refusal::NoArea4 => NO_AREA_4,
+            Refusal::NoRoom => NO_ROOM,
+            Refusal::Nothing => NOTHING,
+            Refusal::BadSetup => BAD_SETUP,
+            Refusal::AlreadyEnded => ALREADY_ENDED,
+            Refusal::DoesNotFit => DOES_NOT_FIT,
+            Refusal::OutOfReach => OUT_OF_REACH,
+            Refusal::TotalFull => TOTAL_FULL,
+        }
+    }
+
+    // The number of the class that a refusal comes with: 0 with any but an invalid log page.
+    pub fn class_number(self) -> u8
+        ensures { result ≡ class_told self }
+    {
+        match self {
+            Refusal::InvalidLogPage(class) => class.number(),
+            _ => 0,
+        }
+    }
+}
+
+// The paper's number of an answer: 0 with what was asked for, else its refusal's.
+pub fn number<T: Copy>(answer: Result<T, Refusal>) -> u8
+    ensures { result ≡ result_number answer }
+{
+    match answer {
+        Ok(_) => SUCCESS,
+        Err(refusal) => refusal.number(),
+    }
+}
+
+// An NVMe status: status code type and status code.
+#[derive(Clone, Copy, PartialEq, Eq)]
 pub struct Status {
-    pub given: bool,
     pub sct: u8,
     pub sc: u8,
 }
 
-fn nvme(sct: u8, sc: u8) -> Status
+fn nvme(sct: u8, sc: u8) -> Option<Status>
     ensures { result ≡ nvme_status sct sc }
 {
-    Status {
-        given: true,
-        sct,
-        sc,
-    }
+    Some(Status { sct, sc })
 }
 
-fn no_status() -> Status
-    ensures { result ≡ no_status }
-{
-    Status {
-        given: false,
-        sct: 0,
-        sc: 0,
-    }
-}
-
-// The NVMe status of an answer. None is given for one that refuses the call itself, nor for a number that is no answer.
-pub fn status_of(answer: u8) -> Status
+// The NVMe status of an answer, which is any number, since C asks by one. None is given for one that refuses the call itself, nor for a number that is no answer.
+pub fn status_of(answer: u8) -> Option<Status>
     ensures { result ≡ status_of answer }
 {
     match answer {
         SUCCESS => nvme(GENERIC, 0x00),
         INVALID_FIELD => nvme(GENERIC, 0x02),
         INVALID_LOG_PAGE => nvme(COMMAND_SPECIFIC, 0x09),
-        _ => no_status(),
+        _ => None,
     }
 }
 
-// The number of an answer that has no NVMe status.
+// The number of an answer that has no NVMe status, which the C interface has.
 const NO_NUMBER: u16 = 0xffff;
 
 // The NVMe status of an answer as one number.
 pub fn status_number(answer: u8) -> u16
     ensures { result ≡ status_number (status_of answer) }
 {
-    let status = status_of(answer);
-    if status.given {
-        256 * (status.sct as u16) + (status.sc as u16)
-    } else {
-        NO_NUMBER
+    match status_of(answer) {
+        Some(status) => 256 * (status.sct as u16) + (status.sc as u16),
+        None => NO_NUMBER,
     }
 }
 
-// The class of each identifier as a digit: a row for each high half of the identifier, 0h to Fh, and in it the low half, 0h to Fh.
+// The class of each identifier as a digit, so that the table reads by its rows: a row for each high half of the identifier, 0h to Fh, and in it the low half, 0h to Fh.
 const CLASSES: [u8; 256] = *b"\
     0000000000000010\
     0000000001000000\
@@ -126,9 +194,21 @@ const CLASSES: [u8; 256] = *b"\
     2222222222222222\
     2222222222222222";
 
-// The identifier's class, 0 named, 1 elsewhere, 2 the vendor's, 3 reserved: every u8 has an entry.
-pub fn class(identifier: u8) -> u8
+// The number of the identifier's class: every u8 has an entry.
+fn class_digit(identifier: u8) -> u8
     ensures { result ≡ class_of identifier }
 {
     CLASSES[identifier as usize] - b'0'
+}
+
+// The identifier's class.
+pub fn class(identifier: u8) -> PageClass
+    ensures { class_number result ≡ class_of identifier }
+{
+    match class_digit(identifier) {
+        0 => PageClass::Named,
+        1 => PageClass::Elsewhere,
+        2 => PageClass::Vendor,
+        _ => PageClass::Reserved,
+    }
 }

@@ -1,9 +1,10 @@
 -- Four numbers and their bytes are had back from each other.
 -- Assumes nothing.
 use Rattle.std.specs.Prelude.{ℕ, zero, suc, ◌+◌, ◌^◌, ◌<◌, ◌≡◌, refl, List, [], ◌∷◌, ◌++◌, length, get_or}
-use Rattle.std.proofs.Common.{arith}
+use Rattle.std.proofs.Common.{arith, ap, add-zero}
+use Rattle.littleendian.specs.Numbers.{value_at}
 use Rattle.littleendian.specs.Back.{value_back, run, run_all, join, Bytes, bytes_kept, value_small}
-use Rattle.arrays.specs.Arrays.{fours_of, fours_at}
+use Rattle.arrays.specs.Arrays.{fours_of, fours_at, values_at}
 
 -- four numbers that four bytes each can hold
 pub record Four (a : List ℕ) : Type 0 where
@@ -33,3 +34,8 @@ four_of a b c d p q r s = record { four = refl; each = at }
 
 pub fours_small : (i : ℕ) (b : List ℕ) → Bytes b → Four (fours_at i b)
 fours_small i b t = four_of _ _ _ _ (value_small 4 i b t) (value_small 4 (i + 4) b t) (value_small 4 (i + 8) b t) (value_small 4 (i + 12) b t)
+
+-- four values, as they are read
+pub four_values : (i : ℕ) (b : List ℕ) → values_at 4 (λ (n : ℕ). n) 4 i b ≡ fours_at i b
+four_values i b =
+    ap (λ (j : ℕ). value_at 4 j b ∷ value_at 4 (i + 4) b ∷ value_at 4 (i + 8) b ∷ value_at 4 (i + 12) b ∷ []) (add-zero i)

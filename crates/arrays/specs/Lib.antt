@@ -1,3 +1,4 @@
 pub mod Arrays
 pub mod Back
 pub mod Puts
+pub mod Made

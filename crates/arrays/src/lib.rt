@@ -1,23 +1,24 @@
-// Arrays as bytes at a place of a slice: four numbers of four bytes each, and a reason.
+// Arrays as bytes at a place of a slice: numbers one after another, and a reason.
 //
 // It rests on copies and littleendian. It promises that each is put as, and read from, exactly the bytes of specs/Arrays.antt, and that nothing is lost on
 // either way (specs/Back.antt).
 #![tactic(auto)]
 
-ghost use Rattle.std.specs.Prelude.{◌≡◌, ◌+◌, ◌≤◌, length};
+ghost use Rattle.std.specs.Prelude.{◌≡◌, ◌+◌, ◌*◌, ◌≤◌, length};
 ghost use Rattle.copies.specs.Parts.{put_at};
-ghost use Rattle.arrays.specs.Arrays.{fours_of, fours_at, reason_at};
+ghost use Rattle.arrays.specs.Arrays.{numbers_of, values_at, reason_at};
 
-// Four numbers of four bytes each, in the same way.
-pub fn put_fours(out: &mut [u8], at: usize, a: [u32; 4])
-    ensures { out.new ≡ put_at out.old at (fours_of a) }
+use littleendian::LittleEndian;
+
+// Numbers one after another go into `out` from `at` on. Where they do not all fit there, `out` stays as it is.
+pub fn put_all<T: LittleEndian>(out: &mut [u8], at: usize, all: &[T])
+    ensures { out.new ≡ put_at out.old at (numbers_of T.WIDTH T.number all.now) }
 {
-    let mut b = [0u8; 16];
-    littleendian::put4(&mut b, 0, a[0]);
-    littleendian::put4(&mut b, 4, a[1]);
-    littleendian::put4(&mut b, 8, a[2]);
-    littleendian::put4(&mut b, 12, a[3]);
-    copies::put(&b, out, at);
+    if at <= out.len() && all.len() <= (out.len() - at) / T::WIDTH {
+        for (k, x) in all.iter().enumerate() {
+            x.put_le(out, at + k * T::WIDTH);
+        }
+    }
 }
 
 // A reason, in the same way. The contract says its length too, which whoever puts one needs.
@@ -27,16 +28,16 @@ pub fn put_reason(out: &mut [u8], at: usize, reason: [u8; 128])
     copies::put(&reason, out, at);
 }
 
-// The four numbers in the sixteen bytes from `i` on.
-pub fn fours_at(b: &[u8], i: usize) -> [u32; 4]
-    requires { i + 16 ≤ length b.now }
-    ensures { result ≡ fours_at i b.now }
+// The numbers in the bytes from `i` on, one after another.
+pub fn all_at<T: LittleEndian, const N: usize>(b: &[u8], i: usize) -> [T; N]
+    requires { i + N * T.WIDTH ≤ length b.now }
+    ensures { result ≡ values_at T.WIDTH T.of N i b.now }
 {
-    let a1 = littleendian::value4_at(b, i);
-    let a2 = littleendian::value4_at(b, i + 4);
-    let a3 = littleendian::value4_at(b, i + 8);
-    let a4 = littleendian::value4_at(b, i + 12);
-    [a1, a2, a3, a4]
+    std::array::from_fn(
+        |k| -> T
+            requires { i + k * T.WIDTH + T.WIDTH ≤ length b.now }
+        { T::value_at(b, i + k * T::WIDTH) },
+    )
 }
 
 // The reason in the 128 bytes from `i` on.

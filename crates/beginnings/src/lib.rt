@@ -5,6 +5,7 @@
 #![tactic(auto)]
 
 ghost use Rattle.std.specs.Prelude.{◌≡◌};
+ghost use Rattle.collection.specs.Told.{stepped_told};
 ghost use Rattle.collection.specs.Collection.{beginning, setup_of};
 
 use collection::{Collection, Next, Stepped};
@@ -28,21 +29,21 @@ fn beginning_of(plan: Plan, phase: Phase, count: u64) -> Collection
 }
 
 // The first command with the state that awaits it, or 13 or 6 with an ended state.
+#[tactic(auto, using(answers::specs::Refused::refused_is), unfolding(collection::specs::Collection::setup_of))]
 pub fn setup(plan: Plan) -> Stepped
-    ensures { result ≡ setup_of plan }
+    ensures { stepped_told result ≡ setup_of plan }
 {
-    let answer = plans::setup_answer(plan);
-    if answer == answers::SUCCESS {
-        let state = beginning_of(plan, Phase::First, 1);
-        let words = state.awaited();
-        return Stepped {
-            state,
-            next: Next::Send(words),
-        };
-    }
-    let state = beginning_of(plan, Phase::Ended, 0);
-    Stepped {
-        state,
-        next: Next::Refuse(answer),
+    match plan.setup_answer() {
+        Ok(()) => {
+            let state = beginning_of(plan, Phase::First, 1);
+            Stepped {
+                state,
+                next: Next::Send(state.awaited()),
+            }
+        }
+        Err(refusal) => Stepped {
+            state: beginning_of(plan, Phase::Ended, 0),
+            next: Next::Refuse(refusal),
+        },
     }
 }

@@ -2,7 +2,7 @@
 -- answer; struct bumbazeel_planned has the field at fault and its byte with answer 7, and zeros beside them, zeros alone with any other refusal, and with 0 no field at fault;
 -- `bumbazeel_field_byte` tells the byte of either; and a step at a first header answers as the plan from it does.
 -- Assumes nothing.
-use Rattle.std.specs.Prelude.{ℕ, ◌≤◌, ◌≡◌, List, ◌∷◌, ◌++◌, Bool, not, length, eqb}
+use Rattle.std.specs.Prelude.{ℕ, ◌≤◌, ◌≡◌, List, ◌∷◌, ◌++◌, Bool, not, length, eqb, Option, Some, None}
 use Rattle.std.proofs.Math.Path.{refl, sym, ap, subst}
 use Rattle.std.proofs.Common.{◌∙◌, arith, eq-eqb, ne_eqb}
 use Rattle.std.proofs.Math.Bool.{true, false}
@@ -13,16 +13,15 @@ use Rattle.copies.specs.Parts.{zeros}
 use Rattle.littleendian.specs.Numbers.{bytes_of, value_at}
 use Rattle.answers.specs.Answers.{success, bad_header, bad_setup}
 use Rattle.header.specs.declared.Fault.{Fault}
-use Rattle.header.specs.declared.Fault.TheVariants.{None, Length, Identifier, Area2, Area3, Area4, Scope, Available, Empty}
+use Rattle.header.specs.declared.Fault.TheVariants.{Length, Identifier, Area2, Area3, Area4, Scope, Available, Empty}
 use Rattle.header.specs.Header.{faultless, byte_of, no_fields, check_of}
 use Rattle.plans.specs.declared.Plan.{Plan}
 use Rattle.phases.specs.declared.Phase.TheVariants.{First}
-use Rattle.completions.specs.declared.Planned.{Planned}
-use Rattle.completions.specs.Plan.{refused_plan, plan_of, plan_by}
+use Rattle.completions.specs.Plan.{Planned, refused_plan, plan_of, plan_by}
 use Rattle.completions.specs.Planned.{planned_good, planned_refused, planned_bad_only, planned_good_only}
-use Rattle.collection.specs.declared.Next.{Next}
-use Rattle.collection.specs.declared.Next.TheVariants.{Refuse}
-use Rattle.collection.specs.declared.Stepped.{Stepped}
+use Rattle.collection.specs.Told.{Next}
+use Rattle.collection.specs.Told.{Refuse}
+use Rattle.collection.specs.Told.{Stepped}
 use Rattle.collection.specs.Collection.{refusal_of, setup_of, step_of, copy_after, answer_of, fault_said}
 use Rattle.demands.specs.Fields.{not_length}
 use Rattle.demands.specs.Plans.{step_plans}
@@ -44,21 +43,21 @@ pub c_setup_carries : (p : Plan) → field_in (next_bytes (setup_of p).next) ≡
 c_setup_carries p = field_back (setup_of p).next ∙ ap fault_number (setup_carries p)
 
 -- a fault that is not the length has a number from 2 to 8
-number_range : (x : Fault) → faultless x ≡ false → (x ≡ Length → ⊥) → (2 ≤ fault_number x) × (fault_number x ≤ 8)
+number_range : (x : Option Fault) → faultless x ≡ false → (x ≡ Some Length → ⊥) → (2 ≤ fault_number x) × (fault_number x ≤ 8)
 number_range None e n = clash {t = true} refl e
-number_range Length e n = absurd (n refl)
-number_range Identifier e n = (omega arith, omega arith)
-number_range Area2 e n = (omega arith, omega arith)
-number_range Area3 e n = (omega arith, omega arith)
-number_range Area4 e n = (omega arith, omega arith)
-number_range Scope e n = (omega arith, omega arith)
-number_range Available e n = (omega arith, omega arith)
-number_range Empty e n = (omega arith, omega arith)
+number_range (Some Length) e n = absurd (n refl)
+number_range (Some Identifier) e n = (omega arith, omega arith)
+number_range (Some Area2) e n = (omega arith, omega arith)
+number_range (Some Area3) e n = (omega arith, omega arith)
+number_range (Some Area4) e n = (omega arith, omega arith)
+number_range (Some Scope) e n = (omega arith, omega arith)
+number_range (Some Available) e n = (omega arith, omega arith)
+number_range (Some Empty) e n = (omega arith, omega arith)
 
 -- of any bytes of a state, any data and any copy
 module _ (s : List ℕ) (ok : Bool) (d copy : List ℕ) where
   -- what is at fault in the data, as a header of the page that the state's bytes speak of, under the DA4S of their capabilities
-  abbrev pub lent_fault : Fault
+  abbrev pub lent_fault : Option Fault
   lent_fault = (check_of (get_or s 1 0) (caps_of (get_or s 4 0)).da4s d).fault
 
   -- struct bumbazeel_next and struct bumbazeel_state as the step leaves them
@@ -180,7 +179,7 @@ module _ (page area caps chunk room : ℕ) (h : List ℕ) where
       ∙ ap (λ (k : ℕ). byte_of page (fault_by k)) (sym (told_field page x))
 
   -- the field at fault, of the check for the capabilities' DA4S
-  abbrev pub found_fault : Fault
+  abbrev pub found_fault : Option Fault
   found_fault = (check_of page (caps_of caps).da4s h).fault
 
   -- with 7 all else is zeros

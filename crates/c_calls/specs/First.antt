@@ -11,7 +11,7 @@ use Rattle.words.specs.declared.Words.{Words}
 use Rattle.records.specs.Back.{Typed}
 use Rattle.plans.specs.declared.Plan.{Plan}
 use Rattle.plans.specs.Plans.{setup_answer}
-use Rattle.collection.specs.declared.Stepped.{Stepped}
+use Rattle.collection.specs.Told.{Stepped}
 use Rattle.collection.specs.Collection.{setup_of}
 use Rattle.collection.specs.Steps.{setup_refused}
 use Rattle.verdicts.specs.Accepted.{unless_disagree}

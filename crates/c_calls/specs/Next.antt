@@ -10,7 +10,7 @@ use Rattle.littleendian.specs.Back.{value_back}
 use Rattle.answers.specs.Answers.{success}
 use Rattle.pages.specs.Laws.{by_page}
 use Rattle.words.specs.declared.Words.{Words}
-use Rattle.words.specs.declared.Built.{Built}
+use Rattle.words.specs.Words.{Built}
 use Rattle.words.specs.Words.{taken, no_words, built_of}
 use Rattle.words.specs.Back.{taken_bounds}
 use Rattle.plans.specs.declared.Plan.{Plan}
@@ -22,9 +22,9 @@ use Rattle.judgement.specs.declared.Move.TheVariants.{End, Open, More, Skip, Ack
 use Rattle.endings.specs.Endings.{newer_of}
 use Rattle.collection.specs.declared.Collection.{Collection}
 use Rattle.collection.specs.declared.Finish.{Finish}
-use Rattle.collection.specs.declared.Next.{Next}
-use Rattle.collection.specs.declared.Next.TheVariants.{Send, End as Ends, Refuse}
-use Rattle.collection.specs.declared.Stepped.{Stepped}
+use Rattle.collection.specs.Told.{Next}
+use Rattle.collection.specs.Told.{Send, End as Ends, Refuse}
+use Rattle.collection.specs.Told.{Stepped}
 use Rattle.collection.specs.Collection.{awaited_of, refusal_of, look_of, move_of, setup_of, step_of, answer_of, fault_said}
 use Rattle.collection.specs.Steps.{makes, refused_step, taken_step, setup_taken, setup_refused}
 use Rattle.shared_layouts.specs.Layouts.{fault_number}

@@ -23,13 +23,12 @@ use Rattle.plans.specs.Plans.{setup_answer, area_last}
 use Rattle.phases.specs.Asked.{phase_at}
 use Rattle.plans.specs.Limits.{plan_limits}
 use Rattle.completions.specs.declared.Seen.{Seen}
-use Rattle.completions.specs.declared.Planned.{Planned}
-use Rattle.completions.specs.Plan.{least_plan, answer_to, planned_by, plan_of, plan_by}
+use Rattle.completions.specs.Plan.{Planned, least_plan, answer_to, planned_by, plan_of, plan_by}
 use Rattle.completions.specs.Completions.{planned_seen, seen_of, look_by}
 use Rattle.judgement.specs.declared.Move.{Move}
 use Rattle.judgement.specs.declared.Move.TheVariants.{End, Open, More, Skip, Acknowledge}
 use Rattle.collection.specs.declared.Collection.{Collection}
-use Rattle.collection.specs.declared.Stepped.{Stepped}
+use Rattle.collection.specs.Told.{Stepped}
 use Rattle.collection.specs.Collection.{valid_state, refusal_of, look_of, move_of, number_in, setup_of, step_of, copy_after}
 use Rattle.collection.specs.Laws.{valid_bounded, not_refused}
 use Rattle.collection.specs.Steps.{makes, refused_step, taken_step}

@@ -12,6 +12,14 @@ ghost use Rattle.captures.specs.Captures.{reason_of, kept_in, host_taken, contro
 use pages::Caps;
 use records::{ControllerPage, HostPage, Record};
 
+// What a capture is lent: four last blocks, the blocks' bytes and a reason.
+#[derive(Clone, Copy)]
+pub struct Candidate<'a> {
+    pub last: [u32; 4],
+    pub bytes: &'a [u8],
+    pub reason: &'a [u8],
+}
+
 // What the record notes of a candidate.
 #[derive(Clone, Copy)]
 struct Noted {
@@ -23,9 +31,8 @@ struct Noted {
 fn keep(bytes: &[u8], blocks: u32, store: &mut [u8])
     ensures { store.new ≡ kept_in store.old bytes.now blocks }
 {
-    let end = pages::in_bytes(blocks);
-    let n = choices::pick_usize(end <= bytes.len(), end, bytes.len());
-    copies::put(&bytes[0..n], store, 0);
+    let n = pages::in_bytes(blocks).min(bytes.len());
+    copies::put(&bytes[..n], store, 0);
 }
 
 // The candidate's reason, in an array of its own.
@@ -38,134 +45,69 @@ fn reason_of(reason: &[u8]) -> [u8; 128]
 }
 
 // What is kept of a candidate: its first blocks in the store, and what the record notes.
-fn kept(caps: Caps, mcda: u32, a: [u32; 4], bytes: &[u8], reason: &[u8], store: &mut [u8]) -> Noted
-    ensures { (result ≡ record { last = trim_of caps mcda a; reason = reason_of reason.now }) × (store.new ≡ kept_in store.old bytes.now (last_of (top_of caps mcda) a)) }
+fn kept(caps: Caps, mcda: u32, candidate: Candidate, store: &mut [u8]) -> Noted
+    ensures { (result ≡ record { last = trim_of caps mcda candidate.entry.last; reason = reason_of candidate.entry.reason.now }) × (store.new ≡ kept_in store.old candidate.entry.bytes.now (last_of (top_of caps mcda) candidate.entry.last)) }
 {
-    keep(bytes, pages::last_of(trimming::top(caps, mcda), a), store);
-    Noted {
-        last: trimming::trim(caps, mcda, a),
-        reason: reason_of(reason),
-    }
+    let a = candidate.last;
+    keep(
+        candidate.bytes,
+        pages::last_of(trimming::top(caps, mcda), a),
+        store,
+    );
+    let last = trimming::trim(caps, mcda, a);
+    let reason = reason_of(candidate.reason);
+    Noted { last, reason }
 }
 
-fn host_taken(r: Record, last: [u32; 4], reason: [u8; 128]) -> Record
-    ensures { result ≡ host_taken r last reason }
+// A capture on 07h under an MCDA: the record and the host store after it. One on 08h shares `kept` alone: it sets other fields of another page.
+pub fn on_host(r: Record, mcda: u32, candidate: Candidate, store: &mut [u8]) -> Record
+    ensures { (result ≡ host_taken r (trim_of r.caps mcda candidate.entry.last) (reason_of candidate.entry.reason.now)) × (store.new ≡ kept_in store.old candidate.entry.bytes.now (last_of (top_of r.caps mcda) candidate.entry.last)) }
 {
-    let caps = r.caps;
-    let identity = r.identity;
-    let old = r.host;
-    let controller = r.controller;
+    let Noted { last, reason } = kept(r.caps, mcda, candidate, store);
     let host = HostPage {
         last,
-        generation: std::num::wrapping_add_u8(old.generation, 1),
+        generation: r.host.generation.wrapping_add(1),
         reason,
     };
-    Record {
-        caps,
-        identity,
-        host,
-        controller,
-    }
+    Record { host, ..r }
 }
 
-fn controller_taken(r: Record, last: [u32; 4], reason: [u8; 128]) -> Record
-    ensures { result ≡ controller_taken r last reason }
+// A capture on 08h, which has no MCDA: the record and the controller store after it.
+pub fn on_controller(r: Record, candidate: Candidate, store: &mut [u8]) -> Record
+    ensures { (result ≡ controller_taken r (trim_of r.caps 0 candidate.entry.last) (reason_of candidate.entry.reason.now)) × (store.new ≡ kept_in store.old candidate.entry.bytes.now (last_of (top_of r.caps 0) candidate.entry.last)) }
 {
-    let caps = r.caps;
-    let identity = r.identity;
-    let host = r.host;
-    let held = r.controller;
+    let Noted { last, reason } = kept(r.caps, 0, candidate, store);
     let controller = ControllerPage {
         last,
-        generation: std::num::wrapping_add_u8(held.generation, 1),
+        generation: r.controller.generation.wrapping_add(1),
         tcda: 1,
         notice: true,
         reason,
     };
-    Record {
-        caps,
-        identity,
-        host,
-        controller,
-    }
-}
-
-// A capture on 07h under an MCDA: the record and the host store after it.
-pub fn on_host(
-    r: Record,
-    mcda: u32,
-    a: [u32; 4],
-    bytes: &[u8],
-    reason: &[u8],
-    store: &mut [u8],
-) -> Record
-    ensures { (result ≡ host_taken r (trim_of r.caps mcda a) (reason_of reason.now)) × (store.new ≡ kept_in store.old bytes.now (last_of (top_of r.caps mcda) a)) }
-{
-    let caps = r.caps;
-    let k = kept(caps, mcda, a, bytes, reason, store);
-    let last = k.last;
-    let reason = k.reason;
-    host_taken(r, last, reason)
-}
-
-// A capture on 08h, which has no MCDA: the record and the controller store after it.
-pub fn on_controller(
-    r: Record,
-    a: [u32; 4],
-    bytes: &[u8],
-    reason: &[u8],
-    store: &mut [u8],
-) -> Record
-    ensures { (result ≡ controller_taken r (trim_of r.caps 0 a) (reason_of reason.now)) × (store.new ≡ kept_in store.old bytes.now (last_of (top_of r.caps 0) a)) }
-{
-    let caps = r.caps;
-    let k = kept(caps, 0, a, bytes, reason, store);
-    let last = k.last;
-    let reason = k.reason;
-    controller_taken(r, last, reason)
+    Record { controller, ..r }
 }
 
 // An acknowledgement of 08h: reason and generation stay.
 pub fn cleared(r: Record) -> Record
     ensures { result ≡ cleared_of r }
 {
-    let caps = r.caps;
-    let identity = r.identity;
-    let host = r.host;
-    let old = r.controller;
-    let reason = old.reason;
     let controller = ControllerPage {
         last: [0; 4],
-        generation: old.generation,
         tcda: 0,
         notice: false,
-        reason,
+        ..r.controller
     };
-    Record {
-        caps,
-        identity,
-        host,
-        controller,
-    }
+    Record { controller, ..r }
 }
 
 // A drop of the host's data, as a Firmware Commit or power on makes it: the generation stays, and nothing of 08h is touched.
 pub fn dropped(r: Record) -> Record
     ensures { result ≡ dropped_of r }
 {
-    let caps = r.caps;
-    let identity = r.identity;
-    let held = r.host;
-    let controller = r.controller;
     let host = HostPage {
         last: [0; 4],
-        generation: held.generation,
         reason: [0; 128],
+        ..r.host
     };
-    Record {
-        caps,
-        identity,
-        host,
-        controller,
-    }
+    Record { host, ..r }
 }

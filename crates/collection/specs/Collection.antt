@@ -1,13 +1,12 @@
 -- Document 01, "Host: header check and collection", on the state: setup, what a step refuses, what it makes of the state, and what happens
 -- to the copy. What is awaited is in the crate plans, what a completion calls for in judgement. h is what is seen of the data.
 -- Assumes nothing.
-use Rattle.std.specs.Prelude.{ℕ, ◌+◌, ◌≤◌, List, Bool, length, eqb}
+use Rattle.std.specs.Prelude.{ℕ, ◌+◌, ◌≤◌, List, Bool, length, eqb, Option, None}
 use Rattle.choices.specs.Choice.{pick}
 use Rattle.copies.specs.Parts.{zeros}
 use Rattle.answers.specs.Answers.{success}
 use Rattle.words.specs.declared.Words.{Words}
 use Rattle.header.specs.declared.Fault.{Fault}
-use Rattle.header.specs.declared.Fault.TheVariants.{None}
 use Rattle.plans.specs.declared.Plan.{Plan}
 use Rattle.phases.specs.declared.Phase.{Phase}
 use Rattle.phases.specs.declared.Phase.TheVariants.{First, Ended}
@@ -28,10 +27,10 @@ use Rattle.refusals.specs.Refusals.{most_count, valid_by, fits_by, first_refusal
 use Rattle.turns.specs.Turns.{turn_of}
 use Rattle.touches.specs.Touched.{touched}
 use Rattle.collection.specs.declared.Collection.{Collection}
-use Rattle.collection.specs.declared.Next.{Next}
-use Rattle.collection.specs.declared.Next.TheVariants.{Send, End as Ends, Refuse}
-use Rattle.collection.specs.declared.Stepped.{Stepped}
-use Rattle.collection.specs.declared.Decided.{Decided}
+use Rattle.collection.specs.Told.{Next}
+use Rattle.collection.specs.Told.{Send, End as Ends, Refuse}
+use Rattle.collection.specs.Told.{Stepped}
+use Rattle.collection.specs.Told.{Decided}
 
 -- ---- what is awaited
 
@@ -149,7 +148,7 @@ answer_of (Ends e) = number_of e.ending
 answer_of (Refuse answer) = answer
 
 -- what an answer says is at fault in a header: nothing with a command or a refusal
-abbrev pub fault_said : Next → Fault
+abbrev pub fault_said : Next → Option Fault
 fault_said (Send w) = None
 fault_said (Ends e) = fault_in e.ending
 fault_said (Refuse answer) = None

@@ -24,8 +24,8 @@ use Rattle.judgement.specs.Judgement.{newer_than, tests_of, judge_by}
 use Rattle.turns.specs.Turns.{good}
 use Rattle.collection.specs.declared.Collection.{Collection}
 use Rattle.collection.specs.declared.Finish.{Finish}
-use Rattle.collection.specs.declared.Next.{Next}
-use Rattle.collection.specs.declared.Next.TheVariants.{Send, End as Ends, Refuse}
+use Rattle.collection.specs.Told.{Next}
+use Rattle.collection.specs.Told.{Send, End as Ends, Refuse}
 use Rattle.collection.specs.Collection.{expected_of, look_of, refusal_of, move_of, decide_of, step_of, copy_after}
 use Rattle.collection.specs.Laws.{state_valid, not_refused, Moves, move_cases}
 use Rattle.collection.specs.Steps.{makes, touches, refused_step, refused_copy, taken_step, taken_copy}

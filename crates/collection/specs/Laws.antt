@@ -1,6 +1,6 @@
 -- What a valid state keeps, what a completion that is not refused fits, and which moves it can call for.
 -- Assumes nothing.
-use Rattle.std.specs.Prelude.{ℕ, ◌≤◌, ◌<◌, ◌≡◌, List, Bool, not, ◌&&◌, length, leb}
+use Rattle.std.specs.Prelude.{ℕ, ◌≤◌, ◌<◌, ◌≡◌, List, Bool, not, ◌&&◌, length, leb, Option, None}
 use Rattle.std.proofs.Math.Path.{refl, ap}
 use Rattle.std.proofs.Common.{sym, ◌∙◌, arith}
 use Rattle.std.proofs.Math.Bool.{true, false}
@@ -11,7 +11,6 @@ use Rattle.choices.specs.Tests.{each, and_left, and_right, clash}
 use Rattle.answers.specs.Answers.{success, bad_header, no_room, nothing, out_of_reach}
 use Rattle.pages.specs.Pages.{controller_page}
 use Rattle.header.specs.declared.Fault.{Fault}
-use Rattle.header.specs.declared.Fault.TheVariants.{None}
 use Rattle.header.specs.Header.{faultless}
 use Rattle.phases.specs.declared.Phase.{Phase}
 use Rattle.phases.specs.declared.Phase.TheVariants.{First, Chunk, Close, Ack, Ended}
@@ -30,7 +29,7 @@ use Rattle.endings.specs.Endings.{number_of, fault_in}
 use Rattle.judgement.specs.Judgement.{matches, newer_than, tests_of, first_order, match_order, later_order, judge_by}
 use Rattle.turns.specs.Turns.{good}
 use Rattle.collection.specs.declared.Collection.{Collection}
-use Rattle.collection.specs.declared.Decided.{Decided}
+use Rattle.collection.specs.Told.{Decided}
 use Rattle.refusals.specs.Refusals.{most_count, first_refusal, refusal_by}
 use Rattle.touches.specs.Touched.{touched}
 use Rattle.collection.specs.Collection.{valid_state, completion_fits, expected_of, look_of, refusal_of, move_of, made_of, refused_of, decide_of, copy_after, Bounded}
@@ -114,14 +113,14 @@ settled_is s ok d copy e f = rw (f, e)
 
 -- what an answer of this number says of a header's fault: with 7 what is at fault in the header, which is one that is judged and came, by its plan if it is a first
 -- one; with any other nothing
-pub record Says (s : Collection) (ok : Bool) (h : Seen) (number : ℕ) (fault : Fault) : Type 0 where
+pub record Says (s : Collection) (ok : Bool) (h : Seen) (number : ℕ) (fault : Option Fault) : Type 0 where
   pub told : fault ≡ pick (eqb number bad_header) h.fault None
   pub judged : number ≡ bad_header → judged_by s.phase ≡ true
   pub came : number ≡ bad_header → ok ≡ true
   pub first : number ≡ bad_header → s.phase ≡ First → h.answer ≡ bad_header
   pub later : number ≡ bad_header → closing_by s.phase ≡ true → faultless h.fault ≡ false
 
-pub says_nothing : {s : Collection} {ok : Bool} {h : Seen} {number : ℕ} {fault : Fault} → fault ≡ None → eqb number bad_header ≡ false → Says s ok h number fault
+pub says_nothing : {s : Collection} {ok : Bool} {h : Seen} {number : ℕ} {fault : Option Fault} → fault ≡ None → eqb number bad_header ≡ false → Says s ok h number fault
 says_nothing {number = number} x t =
     let n = eqb-false number bad_header t in
     record { told = x ∙ rw t; judged = λ q. absurd (n q); came = λ q. absurd (n q); first = λ q. absurd (n q); later = λ q. absurd (n q) }

@@ -1,3 +1,4 @@
+pub mod Told
 pub mod Collection
 pub mod Laws
 pub mod Steps

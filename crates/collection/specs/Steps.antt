@@ -31,8 +31,8 @@ use Rattle.judgement.specs.Judgement.{matches, newer_than, tests_of, first_order
 use Rattle.turns.specs.Turns.{opening_of, following_of, left_by, turn_of}
 use Rattle.touches.specs.Touched.{touched}
 use Rattle.collection.specs.declared.Collection.{Collection}
-use Rattle.collection.specs.declared.Stepped.{Stepped}
-use Rattle.collection.specs.declared.Decided.{Decided}
+use Rattle.collection.specs.Told.{Stepped}
+use Rattle.collection.specs.Told.{Decided}
 use Rattle.collection.specs.Collection.{valid_state, look_of, refusal_of, move_of, turn_by, number_in, sends, ends, refuses, act_of, made_of, step_of, copy_after, beginning, setup_of}
 use Rattle.collection.specs.Laws.{state_valid, not_refused, decide_yes, decide_no}
 

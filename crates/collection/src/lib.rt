@@ -7,8 +7,10 @@
 #![tactic(auto)]
 
 ghost use Rattle.std.specs.Prelude.{◌≡◌, length};
-ghost use Rattle.collection.specs.Collection.{awaited_of, turned_to, sends, ends, refuses, act_of, decide_of, step_of, copy_after, Bounded};
+ghost use Rattle.collection.specs.Told.{stepped_told, decided_told};
+ghost use Rattle.collection.specs.Collection.{awaited_of, turned_to, sends, ends, act_of, decide_of, step_of, copy_after, Bounded};
 
+use answers::Refusal;
 use completions::Seen;
 use endings::Ending;
 use judgement::Move;
@@ -36,6 +38,7 @@ pub struct Finish {
 }
 
 // What completes a command: whether it is a success, and its data.
+// `ok` is a flag beside the data, since `step_of` promises 15 for data that come with a refusal.
 #[derive(Clone, Copy)]
 pub struct Completion<'a> {
     pub ok: bool,
@@ -47,7 +50,7 @@ pub struct Completion<'a> {
 pub enum Next {
     Send(Words),
     End(Finish),
-    Refuse(u8),
+    Refuse(Refusal),
 }
 
 #[derive(Clone, Copy)]
@@ -65,12 +68,11 @@ pub struct Decided {
 
 impl Collection {
     // The command that is awaited: five zero words after the ending.
+    #[tactic(auto, unfolding(crate::specs::Collection::awaited_of))]
     pub fn awaited(self) -> Words
         ensures { result ≡ awaited_of self }
     {
-        let phase = self.phase;
-        let last = self.attempt.last;
-        phases::awaited(phase, self.plan, last)
+        self.phase.awaited(self.plan, self.attempt.last)
     }
 
     // The state that a turn leads to, after this many commands.
@@ -78,18 +80,16 @@ impl Collection {
         requires { Bounded self }
         ensures { result ≡ turned_to self t count }
     {
-        let plan = self.plan;
         let old = self.attempt.number;
-        let phase = t.phase;
         let last = t.last;
         let attempt = Attempt {
-            number: choices::pick_u32(t.next, old + 1, old),
+            number: choices::pick(t.next, old + 1, old),
             generation: t.generation,
             last,
         };
         Collection {
-            plan,
-            phase,
+            plan: self.plan,
+            phase: t.phase,
             attempt,
             count,
         }
@@ -97,17 +97,17 @@ impl Collection {
 
     // The command that the state awaits is sent.
     fn sent(self) -> Stepped
-        ensures { result ≡ sends self }
+        ensures { stepped_told result ≡ sends self }
     {
-        let words = self.awaited();
         Stepped {
             state: self,
-            next: Next::Send(words),
+            next: Next::Send(self.awaited()),
         }
     }
 
+    // The collection ends, and says the count.
     fn over(self, ending: Ending) -> Stepped
-        ensures { result ≡ ends self ending }
+        ensures { stepped_told result ≡ ends self ending }
     {
         let finish = Finish {
             ending,
@@ -119,19 +119,11 @@ impl Collection {
         }
     }
 
-    fn refused(self, answer: u8) -> Stepped
-        ensures { result ≡ refuses self answer }
-    {
-        Stepped {
-            state: self,
-            next: Next::Refuse(answer),
-        }
-    }
-
     // Every command sent is counted.
+    #[tactic(auto, unfolding(crate::specs::Collection::act_of))]
     fn act(self, m: Move, t: Turn) -> Stepped
         requires { Bounded self }
-        ensures { result ≡ act_of self m t }
+        ensures { stepped_told result ≡ act_of self m t }
     {
         let before = self.count;
         let count = before + 1;
@@ -145,43 +137,43 @@ impl Collection {
 
     // The next state, with the next command or the ending, and what happens to the copy, from what is known of a completion: that it is
     // a success, its data's length, what was seen of the data (`completions::look`), and the length of the copy.
-    pub fn decide(self, ok: bool, bytes: usize, copy: usize, seen: Seen) -> Decided
-        ensures { result ≡ decide_of self ok bytes copy seen }
+    pub fn decide(self, offered: Offered, seen: Seen) -> Decided
+        ensures { decided_told result ≡ decide_of self offered.ok offered.bytes offered.copy seen }
     {
         let phase = self.phase;
-        let offered = Offered { ok, bytes, copy };
-        let answer = refusals::refusal(self.plan, phase, self.attempt, self.count, offered);
-        if answer == answers::SUCCESS {
-            let m = judgement::judge(phase, self.plan, self.attempt, ok, seen);
-            let t = turns::turn_of(self.plan, self.attempt, seen, m);
-            let touch = t.touch;
-            let stepped = self.act(m, t);
-            return Decided { stepped, touch };
-        }
-        let stepped = self.refused(answer);
-        Decided {
-            stepped,
-            touch: Touch::Keep,
+        match refusals::refusal(self.plan, phase, self.attempt, self.count, offered) {
+            Ok(()) => {
+                let m = judgement::judge(phase, self.plan, self.attempt, offered.ok, seen);
+                let t = turns::turn_of(self.plan, self.attempt, seen, m);
+                Decided {
+                    stepped: self.act(m, t),
+                    touch: t.touch,
+                }
+            }
+            Err(refusal) => Decided {
+                stepped: Stepped {
+                    state: self,
+                    next: Next::Refuse(refusal),
+                },
+                touch: Touch::Keep,
+            },
         }
     }
 
     // The next state, with the next command or the ending. A good chunk is written to its place in the copy, an ending zeroes the copy or
     // what is after the area, and else the copy stays.
-    pub fn step(self, ok: bool, data: &[u8], copy: &mut [u8]) -> Stepped
-        ensures { (result ≡ step_of self ok «data».now (length copy.old)) × (copy.new ≡ copy_after self ok «data».now copy.old) }
+    pub fn step<'a>(self, completion: Completion<'a>, copy: &mut [u8]) -> Stepped
+        ensures { (stepped_told result ≡ step_of self completion.entry.ok completion.entry.«data».now (length copy.old)) × (copy.new ≡ copy_after self completion.entry.ok completion.entry.«data».now copy.old) }
     {
-        let phase = self.phase;
-        let seen = completions::look(phase, self.plan, data);
-        let decided = self.decide(ok, data.len(), copy.len(), seen);
-        let touch = decided.touch;
-        touches::settle(touch, data, copy);
+        let data = completion.data;
+        let offered = Offered {
+            ok: completion.ok,
+            bytes: data.len(),
+            copy: copy.len(),
+        };
+        let seen = completions::look(self.phase, self.plan, data);
+        let decided = self.decide(offered, seen);
+        touches::settle(decided.touch, data, copy);
         decided.stepped
-    }
-
-    // The same step, on a completion as one thing.
-    pub fn step_over<'a>(self, completion: Completion<'a>, copy: &mut [u8]) -> Stepped
-        ensures { (result ≡ step_of self completion.entry.ok completion.entry.«data».now (length copy.old)) × (copy.new ≡ copy_after self completion.entry.ok completion.entry.«data».now copy.old) }
-    {
-        self.step(completion.ok, completion.data, copy)
     }
 }

@@ -1,6 +1,6 @@
 -- Document 01, "Host: header check and collection", on what is seen of a completion's data.
 -- Assumes nothing.
-use Rattle.std.specs.Prelude.{ℕ, List, Bool, length, get_or, eqb}
+use Rattle.std.specs.Prelude.{ℕ, List, Bool, Some, length, get_or, eqb}
 use Rattle.choices.specs.Choice.{pick}
 use Rattle.copies.specs.Parts.{zeros}
 use Rattle.answers.specs.Answers.{success}
@@ -39,7 +39,7 @@ seen_of p d = record {
 
 -- of a chunk's, at which nobody looks
 abbrev pub no_seen : Seen
-no_seen = record { answer = success; fault = Length; tcda = 0; generation = 0; last = zeros 4 }
+no_seen = record { answer = success; fault = Some Length; tcda = 0; generation = 0; last = zeros 4 }
 
 unfoldable pub look_by : Phase → Plan → List ℕ → Seen
 look_by First p d = planned_seen p d

@@ -8,17 +8,15 @@ use borrow.Author.Tests.{eqb-true, eqb-false}
 use Rattle.choices.specs.Choice.{pick_cases}
 use Rattle.choices.specs.Tests.{holds, each, by_test}
 use Rattle.answers.specs.Answers.{success, bad_header, no_room, nothing, out_of_reach}
-use Rattle.header.specs.declared.Checked.{Checked}
-use Rattle.header.specs.Header.{faultless, check_of}
+use Rattle.header.specs.Header.{faultless, Checked, check_of}
 use Rattle.plans.specs.declared.Plan.{Plan}
 use Rattle.phases.specs.declared.Phase.{Phase}
 use Rattle.phases.specs.declared.Phase.TheVariants.{First}
 use Rattle.phases.specs.Phases.{judged_by, closing_by, closing_is, by_header}
 use Rattle.plans.specs.Plans.{plan_tests, setup_answer, in_reach, fits_room, area_answer, fits, chunks_of}
 use Rattle.plans.specs.Limits.{plan_taken, short_is}
-use Rattle.completions.specs.declared.Planned.{Planned}
 use Rattle.completions.specs.declared.Seen.{Seen}
-use Rattle.completions.specs.Plan.{least_plan, answer_to, planned_by, plan_of, plan_by}
+use Rattle.completions.specs.Plan.{Planned, least_plan, answer_to, planned_by, plan_of, plan_by}
 use Rattle.completions.specs.Planned.{planned_answer}
 use Rattle.completions.specs.Completions.{planned_seen, seen_of, look_by, shows_none}
 

@@ -1,6 +1,6 @@
 -- What a plan comes to: the number of chunks, and what each answer says of the header.
 -- Assumes nothing.
-use Rattle.std.specs.Prelude.{ℕ, ◌+◌, ◌-◌, ◌/◌, ◌≡◌, refl, List, [], ◌∷◌, Bool, true, false, not, eqb}
+use Rattle.std.specs.Prelude.{ℕ, ◌+◌, ◌-◌, ◌/◌, ◌≡◌, refl, List, [], ◌∷◌, Bool, true, false, Option, not, eqb}
 use Rattle.std.proofs.Common.{sym, ◌∙◌, arith}
 use Rattle.std.proofs.Math.Path.{ap}
 use Rattle.std.proofs.Math.Nat.{div-eq_of_lt, div-zero, add-div_right}
@@ -10,12 +10,10 @@ use Rattle.choices.specs.Tests.{holds}
 use Rattle.answers.specs.Answers.{success, no_area4, bad_header, no_room, nothing, bad_setup, out_of_reach}
 use Rattle.pages.specs.declared.Caps.{Caps}
 use Rattle.header.specs.declared.Fault.{Fault}
-use Rattle.header.specs.declared.Checked.{Checked}
-use Rattle.header.specs.Header.{faultless, check_of}
+use Rattle.header.specs.Header.{faultless, Checked, check_of}
 use Rattle.plans.specs.declared.Plan.{Plan}
 use Rattle.plans.specs.Plans.{plan_tests, without_area4, setup_answer, fits_room, in_reach, area_answer, area_last, chunk_of, chunks_from, chunks_of}
-use Rattle.completions.specs.declared.Planned.{Planned}
-use Rattle.completions.specs.Plan.{plan_order, least_plan, no_data, answer_to, fault_told, refused_plan, planned_by, plan_of, plan_answer}
+use Rattle.completions.specs.Plan.{Planned, plan_order, least_plan, no_data, answer_to, fault_told, refused_plan, planned_by, plan_of, plan_answer}
 
 -- ---- the number of chunks
 
@@ -75,7 +73,7 @@ module _ (page area : ℕ) (caps : Caps) (chunk room : ℕ) (h : List ℕ) {x : 
   unfolding plan_of planned_by
   plan_good ok ec eb en = rw (← answer_is, ok, en, ec, eb, ex)
 
-  pub plan_refused : {told : Fault} {r : Planned} → (answer ≡ success → ⊥) → told ≡ fault_told answer x.fault → r ≡ refused_plan answer told
+  pub plan_refused : {told : Option Fault} {r : Planned} → (answer ≡ success → ⊥) → told ≡ fault_told answer x.fault → r ≡ refused_plan answer told
       → r ≡ plan_of page area caps chunk room h
   unfolding plan_of planned_by
   plan_refused z et er = er ∙ rw (← answer_is, ne_eqb answer success z, et, ex)

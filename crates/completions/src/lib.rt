@@ -6,35 +6,79 @@
 #![tactic(auto)]
 
 ghost use Rattle.std.specs.Prelude.{◌≡◌, length};
-ghost use Rattle.choices.specs.Choice.{pick, first_that};
 ghost use Rattle.pages.specs.Pages.{block};
-ghost use Rattle.header.specs.declared.Fault.TheVariants.{None};
-ghost use Rattle.header.specs.Header.{fields_of, fault_order, field_fault, no_fields, check_of};
+ghost use Rattle.header.specs.Header.{fields_of, field_fault, checked_by, check_of, checked};
 ghost use Rattle.plans.specs.Plans.{chunks_from};
-ghost use Rattle.completions.specs.Plan.{plan_answer, refused_plan, plan_of};
+ghost use Rattle.completions.specs.declared.NoPlan.TheVariants.{BadHeader, Refused};
+ghost use Rattle.completions.specs.Plan.{why_number, why_fault, plan_of, planned};
 ghost use Rattle.completions.specs.Completions.{generation_of, planned_seen, seen_of, no_seen, look_by};
 
-use header::{Checked, Fault, Fields};
+use answers::Refusal;
+use header::{Fault, Fields};
+use littleendian::LittleEndian;
 use pages::Caps;
 use phases::Phase;
 use plans::Plan;
 
-// What a plan from a header answers: 0 with what the header says and the number of chunks that bring the wanted area; or why not, 7 with what is at
-// fault, and zeros.
+// What a plan from a header gives: what the header says, and the number of chunks that bring the wanted area.
 #[derive(Clone, Copy)]
 pub struct Planned {
-    pub answer: u8,
-    pub fault: Fault,
     pub fields: Fields,
     pub chunks: u32,
+}
+
+// Why a header gives no plan: it is bad, and by what; or setup or its area is refused.
+#[derive(Clone, Copy, PartialEq, Eq)]
+pub enum NoPlan {
+    BadHeader(Fault),
+    Refused(Refusal),
+}
+
+impl NoPlan {
+    // The paper's number of why there is no plan.
+    pub fn number(self) -> u8
+        ensures { result ≡ why_number self }
+    {
+        match self {
+            NoPlan::BadHeader(_) => answers::BAD_HEADER,
+            NoPlan::Refused(refusal) => refusal.number(),
+        }
+    }
+
+    // What is at fault in the header: nothing but in a bad one.
+    pub fn fault(self) -> Option<Fault>
+        ensures { result ≡ why_fault self }
+    {
+        match self {
+            NoPlan::BadHeader(fault) => Some(fault),
+            NoPlan::Refused(_) => None,
+        }
+    }
+}
+
+impl From<Fault> for NoPlan {
+    ghost from_gives = { λ fault e. e ≡ BadHeader fault };
+
+    fn from(fault: Fault) -> NoPlan {
+        NoPlan::BadHeader(fault)
+    }
+}
+
+impl From<Refusal> for NoPlan {
+    ghost from_gives = { λ refusal e. e ≡ Refused refusal };
+
+    fn from(refusal: Refusal) -> NoPlan {
+        NoPlan::Refused(refusal)
+    }
 }
 
 // What is looked at in a completion's data: of a first header what its plan answers, of any other data 0; what is at fault in the header, its TCDA and
 // last blocks, which are zeros if it is refused; and the page's own generation byte, as it stands.
 #[derive(Clone, Copy)]
 pub struct Seen {
+    // What may not change: `judgement::judge` and `Collection::decide` promise what follows any number, with any fault beside it or none.
     pub answer: u8,
-    pub fault: Fault,
+    pub fault: Option<Fault>,
     pub tcda: u8,
     pub generation: u8,
     pub last: [u32; 4],
@@ -49,117 +93,66 @@ fn fields_of(page: u8, h: &[u8]) -> Fields
 {
     let host = page == pages::HOST;
     let second = h[381];
-    let oui = littleendian::value4_at(h, 4) / 256;
-    let areas12 = littleendian::value4_at(h, 8);
-    let area3 = littleendian::value4_at(h, 12) % 65536;
-    let area4 = littleendian::value4_at(h, 16);
+    let oui = u32::value_at(h, 4) / 256;
+    let areas12 = u32::value_at(h, 8);
+    let area3 = u32::value_at(h, 12) % 65536;
+    let area4 = u32::value_at(h, 16);
     let last = [areas12 % 65536, areas12 / 65536, area3, area4];
     let reason = arrays::reason_at(h, 384);
     Fields {
         page: h[0],
         oui,
         last,
-        scope: choices::pick_u8(host, h[380], second),
-        hostgeneration: choices::pick_u8(host, second, 0),
+        scope: choices::pick(host, h[380], second),
+        hostgeneration: choices::pick(host, second, 0),
         tcda: h[382],
         controllergeneration: h[383],
         reason,
     }
 }
 
-// The first fault, from what of the fields is as it should be.
-fn first_fault(
-    identifier: bool,
-    area2: bool,
-    area3: bool,
-    area4: bool,
-    scope: bool,
-    available: bool,
-    some: bool,
-) -> Fault
-    ensures { result ≡ first_that (fault_order identifier area2 area3 area4 scope available some) None }
-{
-    if !identifier {
-        return Fault::Identifier;
-    }
-    if !area2 {
-        return Fault::Area2;
-    }
-    if !area3 {
-        return Fault::Area3;
-    }
-    if !area4 {
-        return Fault::Area4;
-    }
-    if !scope {
-        return Fault::Scope;
-    }
-    if !available {
-        return Fault::Available;
-    }
-    if !some {
-        return Fault::Empty;
-    }
-    Fault::None
-}
-
-fn fault_of(page: u8, da4s: bool, f: Fields) -> Fault
-    ensures { result ≡ field_fault page da4s f }
+// These fields of a header of the page asked for, under a DA4S, or the first thing at fault in them.
+#[tactic(auto, unfolding(header::specs::Header::field_fault))]
+fn good(page: u8, da4s: bool, f: Fields) -> Result<Fields, Fault>
+    ensures { checked result ≡ checked_by (field_fault page da4s f) f }
 {
     let last = f.last;
     let a3 = last[2];
-    first_fault(
-        ((page == pages::HOST) | (page == pages::CONTROLLER)) & (f.page == page),
-        lastblocks::area2_ok(last),
-        lastblocks::area3_ok(last),
-        lastblocks::area4_ok(da4s, last),
-        f.scope <= 2,
-        f.tcda <= 1,
-        (page == pages::HOST) | (f.tcda == 0) | (0 < a3),
-    )
-}
-
-fn no_fields() -> Fields
-    ensures { result ≡ no_fields }
-{
-    Fields {
-        page: 0,
-        oui: 0,
-        last: [0; 4],
-        scope: 0,
-        hostgeneration: 0,
-        tcda: 0,
-        controllergeneration: 0,
-        reason: [0; 128],
+    let asked = (page == pages::HOST) | (page == pages::CONTROLLER);
+    let some = (page == pages::HOST) | (f.tcda == 0) | (0 < a3);
+    if !(asked & (f.page == page)) {
+        return Err(Fault::Identifier);
     }
-}
-
-// What a check answers of a header at fault: zeros in place of the fields.
-fn refused(x: Fault) -> Checked
-    ensures { result ≡ record { fault = x; fields = no_fields } }
-{
-    Checked {
-        fault: x,
-        fields: no_fields(),
+    if !lastblocks::area2_ok(last) {
+        return Err(Fault::Area2);
     }
+    if !lastblocks::area3_ok(last) {
+        return Err(Fault::Area3);
+    }
+    if !lastblocks::area4_ok(da4s, last) {
+        return Err(Fault::Area4);
+    }
+    if f.scope > 2 {
+        return Err(Fault::Scope);
+    }
+    if f.tcda > 1 {
+        return Err(Fault::Available);
+    }
+    if !some {
+        return Err(Fault::Empty);
+    }
+    Ok(f)
 }
 
 // The fields of a header of the page asked for, under a DA4S, or what is at fault in it.
-fn check(page: u8, da4s: bool, h: &[u8]) -> Checked
-    ensures { result ≡ check_of page da4s h.now }
+#[tactic(auto, unfolding(header::specs::Header::check_of, header::specs::Header::fault_of, header::specs::Header::field_fault))]
+fn check(page: u8, da4s: bool, h: &[u8]) -> Result<Fields, Fault>
+    ensures { checked result ≡ check_of page da4s h.now }
 {
     if h.len() != pages::BLOCK {
-        return refused(Fault::Length);
+        return Err(Fault::Length);
     }
-    let f = fields_of(page, h);
-    let x = fault_of(page, da4s, f);
-    if header::faultless(x) {
-        return Checked {
-            fault: x,
-            fields: f,
-        };
-    }
-    refused(x)
+    good(page, da4s, fields_of(page, h))
 }
 
 // ---- the plan
@@ -168,46 +161,21 @@ fn check(page: u8, da4s: bool, h: &[u8]) -> Checked
 fn chunks_of(c: u32, b: u32) -> u32
     ensures { result ≡ chunks_from c 1 b }
 {
-    if c == 0 {
-        return 0;
-    }
-    if b == 0 {
-        return 0;
-    }
-    (b - 1) / c + 1
+    if c == 0 { 0 } else { b.div_ceil(c) }
 }
 
-// The first that speaks against a plan: setup's answer, a bad header, an 08h header that shows no data, what speaks against the area.
-fn plan_answer(setup: u8, bad: bool, none: bool, area: u8) -> u8
-    ensures { result ≡ plan_answer setup bad none area }
-{
-    let some = choices::pick_u8(none, answers::NOTHING, area);
-    let good = choices::pick_u8(bad, answers::BAD_HEADER, some);
-    choices::pick_u8(setup != answers::SUCCESS, setup, good)
-}
-
-// What is at fault is told with a bad header alone.
-fn told(bad: bool, fault: Fault) -> Fault
-    ensures { result ≡ pick bad fault None }
-{
-    if bad { fault } else { Fault::None }
-}
-
-fn refused_plan(answer: u8, fault: Fault) -> Planned
-    ensures { result ≡ refused_plan answer fault }
-{
-    Planned {
-        answer,
-        fault,
-        fields: no_fields(),
-        chunks: 0,
-    }
-}
-
+// What it takes is no `Plan`: who has a header alone has no attempts to ask for.
 // Plans a collection of an area of a page, c blocks a command, into a copy of so many bytes, from the page's header: 13 or 6 as setup would answer, 7, 11,
 // 19 or 8, or what the header says and the number of chunks.
-pub fn plan(page: u8, area: u8, caps: Caps, chunk: u32, room: usize, h: &[u8]) -> Planned
-    ensures { result ≡ plan_of page area caps chunk room h.now }
+pub fn plan(
+    page: u8,
+    area: u8,
+    caps: Caps,
+    chunk: u32,
+    room: usize,
+    h: &[u8],
+) -> Result<Planned, NoPlan>
+    ensures { planned result ≡ plan_of page area caps chunk room h.now }
 {
     let p = Plan {
         page,
@@ -218,51 +186,54 @@ pub fn plan(page: u8, area: u8, caps: Caps, chunk: u32, room: usize, h: &[u8]) -
         room,
         caps,
     };
-    let checked = check(page, caps.da4s, h);
-    let fault = checked.fault;
-    let fields = checked.fields;
-    let last = fields.last;
-    let answer = plan_answer(
-        plans::setup_answer(p),
-        !header::faultless(fault),
-        (page == pages::CONTROLLER) & (fields.tcda == 0),
-        plans::area_answer(p, last),
-    );
-    if answer == answers::SUCCESS {
-        return Planned {
-            answer,
-            fault,
-            fields,
-            chunks: chunks_of(plans::chunk_of(p), plans::area_last(p, last)),
-        };
+    p.setup_answer()?;
+    let fields = check(page, caps.da4s, h)?;
+    if (page == pages::CONTROLLER) & (fields.tcda == 0) {
+        return Err(NoPlan::Refused(Refusal::Nothing));
     }
-    refused_plan(answer, told(answer == answers::BAD_HEADER, fault))
+    let last = fields.last;
+    p.area_answer(last)?;
+    Ok(Planned {
+        fields,
+        chunks: chunks_of(p.chunk_len(), p.area_last(last)),
+    })
 }
 
 // ---- what is seen of a completion's data
 
+#[tactic(auto, unfolding(crate::specs::Completions::generation_of))]
 fn own_generation(page: u8, data: &[u8]) -> u8
     ensures { result ≡ generation_of page «data».now }
 {
     if data.len() != pages::BLOCK {
         return 0;
     }
-    choices::pick_u8(page == pages::HOST, data[381], data[383])
+    choices::pick(page == pages::HOST, data[381], data[383])
 }
 
 // Of a first header, by its plan.
 fn planned_seen(p: Plan, data: &[u8]) -> Seen
     ensures { result ≡ planned_seen p «data».now }
 {
-    let planned = plan(p.page, p.area, p.caps, p.chunk, p.room, data);
-    let last = planned.fields.last;
-    let fault = planned.fault;
-    Seen {
-        answer: planned.answer,
-        fault,
-        tcda: planned.fields.tcda,
-        generation: own_generation(p.page, data),
-        last,
+    let generation = own_generation(p.page, data);
+    match plan(p.page, p.area, p.caps, p.chunk, p.room, data) {
+        Ok(planned) => {
+            let last = planned.fields.last;
+            Seen {
+                answer: answers::SUCCESS,
+                fault: None,
+                tcda: planned.fields.tcda,
+                generation,
+                last,
+            }
+        }
+        Err(why) => Seen {
+            answer: why.number(),
+            fault: why.fault(),
+            tcda: 0,
+            generation,
+            last: [0; 4],
+        },
     }
 }
 
@@ -270,15 +241,25 @@ fn planned_seen(p: Plan, data: &[u8]) -> Seen
 fn seen_of(p: Plan, data: &[u8]) -> Seen
     ensures { result ≡ seen_of p «data».now }
 {
-    let checked = check(p.page, p.caps.da4s, data);
-    let last = checked.fields.last;
-    let fault = checked.fault;
-    Seen {
-        answer: answers::SUCCESS,
-        fault,
-        tcda: checked.fields.tcda,
-        generation: own_generation(p.page, data),
-        last,
+    let generation = own_generation(p.page, data);
+    match check(p.page, p.caps.da4s, data) {
+        Ok(fields) => {
+            let last = fields.last;
+            Seen {
+                answer: answers::SUCCESS,
+                fault: None,
+                tcda: fields.tcda,
+                generation,
+                last,
+            }
+        }
+        Err(fault) => Seen {
+            answer: answers::SUCCESS,
+            fault: Some(fault),
+            tcda: 0,
+            generation,
+            last: [0; 4],
+        },
     }
 }
 
@@ -287,7 +268,7 @@ fn no_seen() -> Seen
 {
     Seen {
         answer: answers::SUCCESS,
-        fault: Fault::Length,
+        fault: Some(Fault::Length),
         tcda: 0,
         generation: 0,
         last: [0; 4],
@@ -295,14 +276,13 @@ fn no_seen() -> Seen
 }
 
 // What is seen of a completion's data. A chunk's bytes are not looked at.
+#[tactic(auto, unfolding(crate::specs::Completions::look_by))]
 pub fn look(phase: Phase, p: Plan, data: &[u8]) -> Seen
     ensures { result ≡ look_by phase p «data».now }
 {
     match phase {
         Phase::First => planned_seen(p, data),
-        Phase::Chunk(_) => no_seen(),
-        Phase::Close(_) => seen_of(p, data),
-        Phase::Ack => seen_of(p, data),
-        Phase::Ended => no_seen(),
+        Phase::Close(_) | Phase::Ack => seen_of(p, data),
+        Phase::Chunk(_) | Phase::Ended => no_seen(),
     }
 }

@@ -17,12 +17,12 @@ use Rattle.words.specs.declared.Command.{Command}
 use Rattle.words.specs.declared.Words.{Words}
 use Rattle.records.specs.Records.{agrees_with}
 use Rattle.records.specs.Back.{StoreFits, Typed, agreed, agrees_where, agreed_typed}
-use Rattle.verdicts.specs.Verdicts.{capture_answer}
+use Rattle.verdicts.specs.Verdicts.{capture_answer, class_for}
 use Rattle.verdicts.specs.Accepted.{Whole, Accepted, accepted, Captures, captures}
 use Rattle.captures.specs.Captures.{cleared_of, dropped_of}
 use Rattle.controller.specs.Asked.{asked, verdict, Agrees}
 use Rattle.controller.proofs.Steps.{create_host, host_stays, captured, no_capture}
-use Rattle.controller.specs.Controller.{World, Candidate, host_captured, controller_captured, outcome, Outcome, class_for, lent_by, acknowledges, cleared, before, sent_of, afterwards, answered, command_of, capture_answered, capture_of, host_dropped, drop_of}
+use Rattle.controller.specs.Controller.{World, Candidate, host_captured, controller_captured, outcome, Outcome, lent_by, acknowledges, cleared, before, sent_of, afterwards, answered, command_of, capture_answered, capture_of, host_dropped, drop_of}
 
 -- ---- a command by its answer
 

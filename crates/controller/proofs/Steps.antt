@@ -1,11 +1,13 @@
 -- What `command`, `capture` and `drop` do, path by path, in variables: each function's proof hands over what its calls ensure.
 -- Assumes nothing.
-use Rattle.std.specs.Prelude.{ℕ, ◌*◌, ◌≤◌, ◌≡◌, refl, List, [], Bool, true, false, length, take}
+use Rattle.std.specs.Prelude.{ℕ, ◌*◌, ◌≤◌, ◌≡◌, refl, List, [], Result, Err, Bool, true, false, length, take}
 use Rattle.std.proofs.Common.{sym, ap, subst, ◌∙◌, arith, eqb-true, ne_eqb}
 use Rattle.choices.specs.Choice.{pick}
 use Rattle.choices.specs.Tests.{by_test, and_left}
 use Rattle.copies.specs.Parts.{zeros, put_length, put_whole}
-use Rattle.answers.specs.Answers.{success, disagree}
+use Rattle.answers.specs.Answers.{success, disagree, refusal_number, class_told}
+use Rattle.answers.specs.declared.Refusal.{Refusal}
+use Rattle.answers.specs.declared.Refusal.TheVariants.{InvalidField, InvalidLogPage, ShortBuffer, Disagree, BrokenCandidate, NoArea4, NoRoom, Nothing, BadSetup, AlreadyEnded, DoesNotFit, OutOfReach, TotalFull}
 use Rattle.pages.specs.Pages.{host_page, telemetry_page, block, last_of, per_page}
 use Rattle.pages.specs.Laws.{by_page}
 use Rattle.lastblocks.specs.Laws.{blocks_greatest}
@@ -19,11 +21,10 @@ use Rattle.records.specs.declared.Record.{Record}
 use Rattle.records.specs.Records.{agrees_with, host_fields, controller_fields, fields_for, blocks_for}
 use Rattle.records.specs.Back.{agreed}
 use Rattle.serving.specs.Serving.{served_into, served_fits}
-use Rattle.verdicts.specs.Verdicts.{command_answer, capture_answer}
+use Rattle.verdicts.specs.Verdicts.{command_answer, capture_answer, class_for}
 use Rattle.verdicts.specs.Accepted.{Whole, Accepted, accepted, captures}
 use Rattle.captures.specs.Captures.{kept_in, reason_of, controller_taken, cleared_of, dropped_of}
-use Rattle.controller.specs.declared.Answered.{Answered}
-use Rattle.controller.specs.Controller.{World, world, Candidate, store_for, page_of, record_made, store_made, host_captured, controller_captured, outcome, Outcome, class_for, lent_by, acknowledges, before, sent_of, afterwards, answered, command_of, capture_answered, capture_of, drop_of}
+use Rattle.controller.specs.Controller.{World, world, Candidate, store_for, page_of, record_made, store_made, host_captured, controller_captured, outcome, Outcome, Answered, answered_by, lent_by, acknowledges, before, sent_of, afterwards, answered, command_of, capture_answered, capture_of, drop_of}
 
 -- ---- what the words say of create
 
@@ -43,6 +44,29 @@ unfolding sent_of page_of
 sent_is w c page buf b p f r e =
     e ∙ served_fits (header_of (fields_for page w.own)) (store_for page w) (blocks_for page w.own) c.offset c.bytes buf f r
     ∙ rw p
+
+-- ---- what the code gives, as an answer with its class and the record
+
+-- a refusal is no success
+pub refused_number : (e : Refusal) → refusal_number e ≡ success → ⊥
+refused_number InvalidField h = omega arith
+refused_number (InvalidLogPage class) h = omega arith
+refused_number ShortBuffer h = omega arith
+refused_number Disagree h = omega arith
+refused_number BrokenCandidate h = omega arith
+refused_number NoArea4 h = omega arith
+refused_number NoRoom h = omega arith
+refused_number Nothing h = omega arith
+refused_number BadSetup h = omega arith
+refused_number AlreadyEnded h = omega arith
+refused_number DoesNotFit h = omega arith
+refused_number OutOfReach h = omega arith
+refused_number TotalFull h = omega arith
+
+-- a refusal that is given: its number, its class and the record as lent
+pub refusal_given : (lent : Record) (e : Refusal) {r : Result Record Refusal} {class : ℕ} → r ≡ Err e → class_told e ≡ class
+    → answered_by lent r ≡ record { answer = refusal_number e; class = class; own = lent }
+refusal_given lent e g f = rw (g, f)
 
 -- ---- the paths of a command
 

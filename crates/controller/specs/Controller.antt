@@ -1,10 +1,10 @@
 -- What a command, a capture and a drop do: document 01, "Captures" and "Answer numbers", and document 02, Q-1. A world is a record with both
 -- stores.
 -- Assumes nothing.
-use Rattle.std.specs.Prelude.{ℕ, List, [], ◌++◌, Bool, not, ◌&&◌, length, drop, eqb}
+use Rattle.std.specs.Prelude.{ℕ, List, [], ◌++◌, Result, Ok, Err, Bool, not, ◌&&◌, length, drop, eqb}
 use Rattle.choices.specs.Choice.{pick}
-use Rattle.answers.specs.Answers.{success, invalid_log_page, disagree}
-use Rattle.answers.specs.Classes.{class_of}
+use Rattle.answers.specs.Answers.{success, disagree, result_number}
+use Rattle.answers.specs.declared.Refusal.{Refusal}
 use Rattle.pages.specs.Pages.{controller_page, last_of, per_page}
 use Rattle.trimming.specs.Trimming.{top_of, trim_of}
 use Rattle.words.specs.declared.Command.{Command}
@@ -16,7 +16,7 @@ use Rattle.records.specs.Records.{fields_for, blocks_for, agrees_with}
 use Rattle.serving.specs.Serving.{page_bytes, window_of}
 use Rattle.captures.specs.Captures.{kept_in, reason_of, host_taken, controller_taken, cleared_of, dropped_of}
 use Rattle.verdicts.specs.declared.Lent.{Lent}
-use Rattle.verdicts.specs.Verdicts.{command_answer, capture_answer}
+use Rattle.verdicts.specs.Verdicts.{command_answer, capture_answer, class_for, class_in}
 
 -- ---- what a command is lent
 
@@ -82,10 +82,6 @@ pub record Outcome : Type 0 where
 abbrev pub outcome : ℕ → ℕ → World → List ℕ → Outcome
 outcome answer class w buf = record { answer = answer; class = class; world = w; buf = buf }
 
--- the class comes with answer 2 alone
-abbrev pub class_for : ℕ → ℕ → ℕ
-class_for answer page = pick (eqb answer invalid_log_page) (class_of page) 0
-
 abbrev pub lent_by : World → Candidate → List ℕ → Lent
 lent_by w candidate buf =
     record { host = length w.host; controller = length w.controller; bytes = length candidate.bytes; reason = length candidate.reason; buf = length buf }
@@ -139,3 +135,20 @@ host_dropped w = world (dropped_of w.own) w.host w.controller
 -- 4 and nothing changed, or 0
 unfoldable pub drop_of : World → Outcome
 drop_of w = pick (agrees_with w.own (length w.host) (length w.controller)) (outcome success 0 (host_dropped w) []) (outcome disagree 0 w [])
+
+-- ---- what the code gives
+
+-- the record after it: the one that a success gives, and with a refusal the one that was lent
+abbrev pub record_left : Record → Result Record Refusal → Record
+record_left lent (Ok after) = after
+record_left lent (Err refusal) = lent
+
+-- an answer, the class with it, and the record afterwards
+pub record Answered : Type 0 where
+  pub answer : ℕ
+  pub class : ℕ
+  pub own : Record
+
+-- as which a result is seen
+abbrev pub answered_by : Record → Result Record Refusal → Answered
+answered_by lent r = record { answer = result_number r; class = class_in r; own = record_left lent r }

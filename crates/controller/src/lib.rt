@@ -2,39 +2,41 @@
 //
 // It rests on all of the ground floor, on trimming, serving, verdicts and captures. It promises the answer, the record, both stores and the buffer after
 // any command, capture and drop, on any lent bytes, as one equation each (specs/Controller.antt). Everything is decided before anything is
-// written, so that what is refused changes nothing.
+// written, so that what is refused changes nothing. A record and its stores stay three arguments: each call lends another of the stores to be written.
 #![tactic(auto)]
 
 ghost use Rattle.std.specs.Prelude.{◌≡◌, []};
 ghost use Rattle.choices.specs.Choice.{pick};
+ghost use Rattle.answers.specs.Answers.{result_number};
 ghost use Rattle.captures.specs.Captures.{cleared_of};
-ghost use Rattle.controller.specs.Controller.{record_made, store_made, acknowledges, class_for, world, candidate_of, outcome, command_of, capture_of, drop_of};
+ghost use Rattle.verdicts.specs.Verdicts.{class_in};
+ghost use Rattle.controller.specs.Controller.{record_made, store_made, acknowledges, world, candidate_of, outcome, lent_by, record_left, command_of, capture_of, drop_of};
 
+use answers::Refusal;
+use captures::Candidate;
 use records::Record;
 use verdicts::Lent;
 use words::{Command, Words};
 
-// The answer, with the identifier's class where it is 2 (else 0), and the record afterwards.
-#[derive(Clone, Copy)]
-pub struct Answered {
-    pub answer: u8,
-    pub class: u8,
-    pub own: Record,
+// The bytes of what is lent.
+fn lent(host: &[u8], controller: &[u8], candidate: Candidate, buf: &[u8]) -> Lent
+    ensures { (r : Record) → result ≡ lent_by (world r host.now controller.now) (candidate_of candidate.entry.last candidate.entry.bytes.now candidate.entry.reason.now) buf.now }
+{
+    Lent {
+        host: host.len(),
+        controller: controller.len(),
+        bytes: candidate.bytes.len(),
+        reason: candidate.reason.len(),
+        buf: buf.len(),
+    }
 }
 
 // A create captures before the transfer: the record after it.
-fn created(
-    r: Record,
-    c: Command,
-    a: [u32; 4],
-    bytes: &[u8],
-    reason: &[u8],
-    host: &mut [u8],
-) -> Record
-    ensures { (result ≡ record_made r c a reason.now) × (host.new ≡ store_made r c a bytes.now host.old) }
+fn created(r: Record, c: Command, candidate: Candidate, host: &mut [u8]) -> Record
+    ensures { (result ≡ record_made r c candidate.entry.last candidate.entry.reason.now) × (host.new ≡ store_made r c candidate.entry.last candidate.entry.bytes.now host.old) }
 {
     if c.create {
-        return captures::on_host(r, c.mcda as u32, a, bytes, reason, host);
+        return captures::on_host(r, c.mcda as u32, candidate, host);
     }
     r
 }
@@ -43,100 +45,55 @@ fn created(
 fn acknowledged(r: Record, c: Command) -> Record
     ensures { result ≡ pick (acknowledges c) (cleared_of r) r }
 {
-    let clears = (c.page == pages::CONTROLLER) & !c.rae;
-    if clears {
+    if (c.page == pages::CONTROLLER) & !c.rae {
         return captures::cleared(r);
     }
     r
 }
 
-fn refused(answer: u8, page: u8, r: Record) -> Answered
-    ensures { result ≡ record { answer = answer; class = class_for answer page; own = r } }
-{
-    let class = choices::pick_u8(answer == answers::INVALID_LOG_PAGE, answers::class(page), 0);
-    Answered {
-        answer,
-        class,
-        own: r,
-    }
-}
-
-// An answer that comes with no class.
-fn plain(answer: u8, r: Record) -> Answered
-    ensures { result ≡ record { answer = answer; class = 0; own = r } }
-{
-    Answered {
-        answer,
-        class: 0,
-        own: r,
-    }
-}
-
-// A command of any five words. It is lent both stores, a candidate (last blocks, bytes and reason), which is read only at a create on
-// 07h, and the transfer buffer. A refusal leaves stores, record and buffer as lent.
+// A command of any five words gives the record afterwards. It is lent both stores, a candidate, which is read only at a create on 07h, and the
+// transfer buffer. A refusal leaves stores, record and buffer as lent.
 pub fn command(
     r: Record,
     host: &mut [u8],
     controller: &[u8],
-    a: [u32; 4],
-    bytes: &[u8],
-    reason: &[u8],
+    candidate: Candidate,
     words: Words,
     buf: &mut [u8],
-) -> Answered
-    ensures { outcome result.answer result.class (world result.own host.new controller.now) buf.new ≡ command_of (world r host.old controller.now) (candidate_of a bytes.now reason.now) words buf.old }
+) -> Result<Record, Refusal>
+    ensures { outcome (result_number result) (class_in result) (world (record_left r result) host.new controller.now) buf.new
+        ≡ command_of (world r host.old controller.now) (candidate_of candidate.entry.last candidate.entry.bytes.now candidate.entry.reason.now) words buf.old }
 {
     let c = words::read(r.caps.extended, words);
-    let lent = Lent {
-        host: host.len(),
-        controller: controller.len(),
-        bytes: bytes.len(),
-        reason: reason.len(),
-        buf: buf.len(),
-    };
-    let answer = verdicts::on_command(r, c, a, lent);
-    if answer != answers::SUCCESS {
-        return refused(answer, c.page, r);
-    }
-    let next = created(r, c, a, bytes, reason, host);
+    let lent = lent(&host[..], controller, candidate, &buf[..]);
+    verdicts::on_command(r, c, candidate.last, lent)?;
+    let next = created(r, c, candidate, host);
     serving::send(next, &host[..], controller, c, buf);
-    plain(answer, acknowledged(next, c))
+    Ok(acknowledged(next, c))
 }
 
-// A capture of the controller's own on 08h, over an unread one too. A refusal leaves stores and record as lent.
+// A capture of the controller's own on 08h, over an unread one too, gives the record afterwards. A refusal leaves stores and record as lent.
 pub fn capture(
     r: Record,
     host: &[u8],
     controller: &mut [u8],
-    a: [u32; 4],
-    bytes: &[u8],
-    reason: &[u8],
-) -> Answered
-    ensures { outcome result.answer result.class (world result.own host.now controller.new) [] ≡ capture_of (world r host.now controller.old) (candidate_of a bytes.now reason.now) }
+    candidate: Candidate,
+) -> Result<Record, Refusal>
+    ensures { outcome (result_number result) (class_in result) (world (record_left r result) host.now controller.new) []
+        ≡ capture_of (world r host.now controller.old) (candidate_of candidate.entry.last candidate.entry.bytes.now candidate.entry.reason.now) }
 {
-    let lent = Lent {
-        host: host.len(),
-        controller: controller.len(),
-        bytes: bytes.len(),
-        reason: reason.len(),
-        buf: 0,
-    };
-    let answer = verdicts::on_capture(r, a, lent);
-    if answer != answers::SUCCESS {
-        return plain(answer, r);
-    }
-    plain(
-        answer,
-        captures::on_controller(r, a, bytes, reason, controller),
-    )
+    let lent = lent(host, &controller[..], candidate, b"");
+    verdicts::on_capture(r, candidate.last, lent)?;
+    Ok(captures::on_controller(r, candidate, controller))
 }
 
-// A drop of the host's data, as a Firmware Commit or power on makes it. Both stores stay as lent; a refusal leaves the record so too.
-pub fn drop(r: Record, host: &[u8], controller: &[u8]) -> Answered
-    ensures { outcome result.answer result.class (world result.own host.now controller.now) [] ≡ drop_of (world r host.now controller.now) }
+// A drop of the host's data, as a Firmware Commit or power on makes it, gives the record afterwards. Both stores stay as lent; a refusal leaves the
+// record so too.
+pub fn drop(r: Record, host: &[u8], controller: &[u8]) -> Result<Record, Refusal>
+    ensures { outcome (result_number result) (class_in result) (world (record_left r result) host.now controller.now) [] ≡ drop_of (world r host.now controller.now) }
 {
-    if records::agrees(r, host.len(), controller.len()) {
-        return plain(answers::SUCCESS, captures::dropped(r));
+    if !records::agrees(r, host.len(), controller.len()) {
+        return Err(Refusal::Disagree);
     }
-    plain(answers::DISAGREE, r)
+    Ok(captures::dropped(r))
 }

@@ -1,6 +1,6 @@
 -- What the code's calls come to, one after another.
 -- Assumes nothing.
-use Rattle.std.specs.Prelude.{ℕ, ◌≡◌, Bool, not, ◌&&◌}
+use Rattle.std.specs.Prelude.{ℕ, ◌≡◌, [], Result, Bool, not, ◌&&◌}
 use Rattle.std.proofs.Math.Path.{sym, ap}
 use Rattle.std.proofs.Common.{◌∙◌}
 use mathlib.Core.List.{List}
@@ -10,14 +10,16 @@ use borrow.Author.Tests.{eq-eqb, ne_eqb, not-true, not-false}
 use Rattle.choices.specs.Choice.{pick}
 use Rattle.choices.specs.Tests.{by_test, clash}
 use Rattle.copies.specs.Parts.{zeros}
-use Rattle.answers.specs.Answers.{success, disagree}
+use Rattle.answers.specs.Answers.{success, disagree, result_number}
+use Rattle.answers.specs.declared.Refusal.{Refusal}
 use Rattle.pages.specs.declared.Caps.{Caps}
 use Rattle.words.specs.declared.Words.{Words}
 use Rattle.records.specs.declared.Identity.{Identity}
 use Rattle.records.specs.declared.Record.{Record}
 use Rattle.records.specs.Records.{identity_ok, agrees_with, fresh_of}
 use Rattle.records.specs.Back.{agreed, fresh_agrees}
-use Rattle.controller.specs.Controller.{Candidate, world, outcome, command_of, capture_of, drop_of}
+use Rattle.verdicts.specs.Verdicts.{class_in}
+use Rattle.controller.specs.Controller.{Candidate, world, outcome, record_left, command_of, capture_of, drop_of}
 use Rattle.shared_layouts.specs.Layouts.{most_caps, caps_of}
 use Rattle.record_layout.specs.Layout.{record_bytes, record_at, record_intact}
 use Rattle.controller_boundary.specs.Boundary.{fresh_ok, fresh_bytes, record_after, command_answer, command_answer_of, command_at, capture_answer, capture_answer_of, capture_at, drop_answer, drop_answer_of, drop_at}
@@ -94,3 +96,26 @@ module _ (r h k : List ℕ) where
       → drop_answer answer w ≡ drop_at r h k
   unfolding drop_at
   drop_done {answer = answer} e f z o w = rw (sym e ∙ not-false _ f, ← z) (ap (λ (x : List ℕ). drop_answer answer x) w ∙ ap (drop_answer_of r) o)
+
+-- ---- and of what the controller gives: its number, the class and the record that it leaves
+
+pub command_given : (r h k : List ℕ) (candidate : Candidate) (words : Words) (buf : List ℕ) (given : Result Record Refusal)
+    {t : Bool} {z : Record} {v : Words} {n class : ℕ} {w host out : List ℕ} → t ≡ record_intact r → not t ≡ false
+    → z ≡ record_at r → v ≡ words
+    → outcome (result_number given) (class_in given) (world (record_left z given) host k) out ≡ command_of (world z h k) candidate v buf
+    → w ≡ record_after r (result_number given) (record_left z given) → n ≡ result_number given → class ≡ class_in given
+    → command_answer n class w host out ≡ command_at r h k candidate words buf
+command_given r h k candidate words buf given e f z v o w en ec = rw (en, ec) (command_done r h k candidate words buf e f z v o w)
+
+pub capture_given : (r h k : List ℕ) (candidate : Candidate) (given : Result Record Refusal)
+    {t : Bool} {z : Record} {n : ℕ} {w controller : List ℕ} → t ≡ record_intact r → not t ≡ false → z ≡ record_at r
+    → outcome (result_number given) (class_in given) (world (record_left z given) h controller) [] ≡ capture_of (world z h k) candidate
+    → w ≡ record_after r (result_number given) (record_left z given) → n ≡ result_number given
+    → capture_answer n w controller ≡ capture_at r h k candidate
+capture_given r h k candidate given e f z o w en = rw en (capture_done r h k candidate e f z o w)
+
+pub drop_given : (r h k : List ℕ) (given : Result Record Refusal) {t : Bool} {z : Record} {n : ℕ} {w : List ℕ} → t ≡ record_intact r → not t ≡ false → z ≡ record_at r
+    → outcome (result_number given) (class_in given) (world (record_left z given) h k) [] ≡ drop_of (world z h k)
+    → w ≡ record_after r (result_number given) (record_left z given) → n ≡ result_number given
+    → drop_answer n w ≡ drop_at r h k
+drop_given r h k given e f z o w en = rw en (drop_done r h k e f z o w)

@@ -1,21 +1,25 @@
 // The controller's functions of include/bumbazeel.h: thin, over what the bytes that C lends say.
 //
-// It rests on shared_layouts and record_layout for the structs, and on answers, records and controller for the work. It promises
+// It rests on shared_layouts and record_layout for the structs, and on answers, records, captures and controller for the work. It promises
 // each function's answer and every lent byte afterwards, for all arguments, as an equation with the definitions that those crates'
 // contracts cite (specs/Boundary.antt). A damaged record is refused, and what is refused changes nothing (proofs/Laws.antt). A struct of
-// the header file is an array of its bytes here, and a pointer with a length is a slice. No store or buffer is moved but by the call that
-// serves it.
+// the header file is an array of its bytes here, an answer and a class are their numbers, and a pointer with a length is a slice. No store or
+// buffer is moved but by the call that serves it.
 #![tactic(auto)]
 
 ghost use Rattle.std.specs.Prelude.{◌≡◌};
 ghost use Rattle.choices.specs.Choice.{pick};
-ghost use Rattle.answers.specs.Answers.{success, disagree};
-ghost use Rattle.controller.specs.Controller.{candidate_of};
+ghost use Rattle.answers.specs.Answers.{success, disagree, result_number};
+ghost use Rattle.verdicts.specs.Verdicts.{class_in};
+ghost use Rattle.controller.specs.Controller.{candidate_of, record_left};
 ghost use Rattle.controller_boundary.specs.Boundary.{words_of, identity_of, fresh_ok, fresh_bytes, record_after, command_answer, command_at, capture_answer, capture_at, drop_answer, drop_at};
 
+use answers::Refusal;
+use captures::Candidate;
 use records::{Identity, Record};
 use words::Words;
 
+// The C interface's five words. A `From` would have to stand in `words`, for this one call.
 fn words_of(a: [u32; 5]) -> Words
     ensures { result ≡ words_of a }
 {
@@ -55,14 +59,24 @@ pub fn bumbazeel_fresh(
     answers::DISAGREE
 }
 
-// The record's bytes after an answer: those of the record that a success leaves, or as they were.
-fn record_after(lent: [u8; 300], answer: u8, after: Record) -> [u8; 300]
-    ensures { result ≡ record_after lent answer after }
+// The record's bytes after an answer: those of the record that a success gives, or as they were.
+fn record_after(lent: [u8; 300], answer: Result<Record, Refusal>) -> [u8; 300]
+    ensures { (r : Record) → result ≡ record_after lent (result_number answer) (record_left r answer) }
 {
-    if answer == answers::SUCCESS {
-        return record_layout::write_record(after);
+    match answer {
+        Ok(after) => record_layout::write_record(after),
+        Err(_) => lent,
     }
-    lent
+}
+
+// The number of the class that an answer comes with.
+fn class_number(answer: Result<Record, Refusal>) -> u8
+    ensures { result ≡ class_in answer }
+{
+    match answer {
+        Ok(_) => 0,
+        Err(refusal) => refusal.class_number(),
+    }
 }
 
 // Answers a command: writes record, host store and buffer where it succeeds, and the class.
@@ -86,19 +100,21 @@ pub fn bumbazeel_command(
         *class = 0;
         return answers::DISAGREE;
     }
-    let x = controller::command(
+    let answer = controller::command(
         record_layout::read_record(&*own),
         host_store,
         controller_store,
-        *last,
-        bytes,
-        reason,
+        Candidate {
+            last: *last,
+            bytes,
+            reason,
+        },
         words_of(*words),
         buffer,
     );
-    *class = x.class;
-    *own = record_after(*own, x.answer, x.own);
-    x.answer
+    *class = class_number(answer);
+    *own = record_after(*own, answer);
+    answers::number(answer)
 }
 
 // Takes a capture of the controller's own: writes record and controller store where it succeeds.
@@ -121,12 +137,14 @@ pub fn bumbazeel_capture(
         record_layout::read_record(&*own),
         host_store,
         controller_store,
-        *last,
-        bytes,
-        reason,
+        Candidate {
+            last: *last,
+            bytes,
+            reason,
+        },
     );
-    *own = record_after(*own, taken.answer, taken.own);
-    taken.answer
+    *own = record_after(*own, taken);
+    answers::number(taken)
 }
 
 // Drops the host's data: writes the record where it succeeds.
@@ -141,6 +159,6 @@ pub fn bumbazeel_drop(own: &mut [u8; 300], host_store: &[u8], controller_store: 
         host_store,
         controller_store,
     );
-    *own = record_after(*own, dropped.answer, dropped.own);
-    dropped.answer
+    *own = record_after(*own, dropped);
+    answers::number(dropped)
 }

@@ -17,6 +17,8 @@ const LARGE: usize = 4194304;
 // The bytes of four pages.
 const FOUR_PAGES: usize = 16384;
 
+// In the next five functions `src` and `dst` stay two parameters. A struct of both is no plainer: each of its methods would promise too that they are the slices they were.
+
 // `count` bytes of `src` from `at` on go to the same place of `dst`.
 fn copy_part(src: &[u8], dst: &mut [u8], at: usize, count: usize)
     requires { (at + count ≤ length src.now) × (length src.now ≤ length dst.old) }
@@ -25,7 +27,7 @@ fn copy_part(src: &[u8], dst: &mut [u8], at: usize, count: usize)
     dst[at..at + count].copy_from_slice(&src[at..at + count]);
 }
 
-// 256 bytes from `at` on in each of four pages.
+// 256 bytes from `at` on in each of four pages. Four calls and no loop: a must-fail edit changes one of them (copy_four_misses_a_page).
 fn copy_four(src: &[u8], dst: &mut [u8], at: usize)
     requires { (at + 12544 ≤ length src.now) × (length src.now ≤ length dst.old) }
     ensures { CopiedFronts src.now dst.old dst.new at 256 }
@@ -41,10 +43,8 @@ fn copy_pages(src: &[u8], dst: &mut [u8], at: usize)
     requires { (at + 16384 ≤ length src.now) × (length src.now ≤ length dst.old) }
     ensures { CopiedPart src.now dst.old dst.new at 16384 }
 {
-    let mut i = 0;
-    while i < 4096 {
-        copy_four(src, dst, at + i);
-        i += 256;
+    for k in 0..16 {
+        copy_four(src, dst, at + 256 * k);
     }
 }
 
@@ -53,11 +53,11 @@ fn copy_large(src: &[u8], dst: &mut [u8])
     requires { length src.now ≤ length dst.old }
     ensures { dst.new ≡ front src.now dst.old }
 {
-    let mut at = 0;
-    while 16384 <= src.len() - at {
-        copy_pages(src, dst, at);
-        at += 16384;
+    let fours = src.len() / FOUR_PAGES;
+    for k in 0..fours {
+        copy_pages(src, dst, FOUR_PAGES * k);
     }
+    let at = FOUR_PAGES * fours;
     copy_part(src, dst, at, src.len() - at);
 }
 
@@ -77,20 +77,8 @@ fn copy_all(src: &[u8], dst: &mut [u8])
 pub fn put(src: &[u8], dst: &mut [u8], place: usize)
     ensures { dst.new ≡ put_at dst.old place src.now }
 {
-    if src.len() <= dst.len() {
-        if place <= dst.len() - src.len() {
-            copy_all(src, &mut dst[place..]);
-        }
-    }
-}
-
-fn zero(dst: &mut [u8])
-    ensures { dst.new ≡ zeros (length dst.old) }
-{
-    let mut i = 0;
-    while i < dst.len() {
-        dst[i] = 0;
-        i += 1;
+    if src.len() <= dst.len() && place <= dst.len() - src.len() {
+        copy_all(src, &mut dst[place..]);
     }
 }
 
@@ -98,9 +86,7 @@ fn zero(dst: &mut [u8])
 pub fn put_zeros(count: usize, dst: &mut [u8], place: usize)
     ensures { dst.new ≡ put_at dst.old place (zeros count) }
 {
-    if count <= dst.len() {
-        if place <= dst.len() - count {
-            zero(&mut dst[place..place + count]);
-        }
+    if count <= dst.len() && place <= dst.len() - count {
+        dst[place..place + count].fill(0);
     }
 }

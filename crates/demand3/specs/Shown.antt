@@ -1,6 +1,6 @@
 -- What a page shows of a world: its header's fields and the bytes of its wanted area; and what a header that the controller sends is seen to show.
 -- Assumes nothing.
-use Rattle.std.specs.Prelude.{ℕ, ◌≤◌, ◌≡◌, refl, List, Bool, true, false, not, ◌&&◌, length, take, get_or, eqb}
+use Rattle.std.specs.Prelude.{ℕ, ◌≤◌, ◌≡◌, refl, List, Bool, true, false, not, ◌&&◌, length, take, get_or, eqb, None}
 use Rattle.std.proofs.Common.{sym, ap, subst, ◌∙◌, arith, eq-eqb}
 use Rattle.std.proofs.lemmas.Bool.{eqb-false}
 use Rattle.choices.specs.Choice.{pick, pick_cases}
@@ -11,7 +11,6 @@ use Rattle.pages.specs.Pages.{host_page, telemetry_page, block, last_of, area4, 
 use Rattle.lastblocks.specs.Rule.{LastRule}
 use Rattle.pages.specs.Laws.{by_page}
 use Rattle.header.specs.declared.Fields.{Fields}
-use Rattle.header.specs.declared.Fault.TheVariants.{None}
 use Rattle.header.specs.Header.{header_of, check_of}
 use Rattle.records.specs.Records.{host_fields, controller_fields, fields_for, blocks_for}
 use Rattle.records.specs.Back.{Typed, agreed, record_reads_back}

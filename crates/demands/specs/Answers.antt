@@ -10,7 +10,7 @@ use Rattle.words.specs.declared.Words.{Words}
 use Rattle.pages.specs.declared.Caps.{Caps}
 use Rattle.pages.specs.Pages.{telemetry_page, last_of, size_of}
 use Rattle.trimming.specs.Trimming.{top_of}
-use Rattle.words.specs.declared.Built.{Built}
+use Rattle.words.specs.Words.{Built}
 use Rattle.words.specs.Words.{taken, built_of}
 use Rattle.records.specs.declared.Record.{Record}
 use Rattle.records.specs.Records.{agrees_with}

@@ -1,6 +1,6 @@
 -- Document 02, Q-2, of a collection: a 7 carries what is at fault in the header just read, at a first and at a later header, and no other answer carries anything.
 -- Assumes nothing.
-use Rattle.std.specs.Prelude.{ℕ, ◌≡◌, List, Bool, length}
+use Rattle.std.specs.Prelude.{ℕ, ◌≡◌, List, Bool, length, Option, None}
 use Rattle.std.proofs.Math.Path.{refl, ap}
 use Rattle.std.proofs.Common.{◌∙◌, eq-eqb, ne_eqb}
 use Rattle.std.proofs.Math.Bool.{true, false}
@@ -11,7 +11,6 @@ use Rattle.choices.specs.Tests.{same_or_not}
 use Rattle.answers.specs.Answers.{success, bad_header}
 use Rattle.pages.specs.Pages.{block}
 use Rattle.header.specs.declared.Fault.{Fault}
-use Rattle.header.specs.declared.Fault.TheVariants.{None}
 use Rattle.header.specs.Header.{faultless, check_of}
 use Rattle.plans.specs.declared.Plan.{Plan}
 use Rattle.phases.specs.Phases.{judged_by, ended_by, by_header}
@@ -24,7 +23,7 @@ use Rattle.endings.specs.declared.Ending.TheVariants.{BadHeader}
 use Rattle.judgement.specs.declared.Move.{Move}
 use Rattle.refusals.specs.Refusals.{first_refusal}
 use Rattle.collection.specs.declared.Collection.{Collection}
-use Rattle.collection.specs.declared.Stepped.{Stepped}
+use Rattle.collection.specs.Told.{Stepped}
 use Rattle.collection.specs.Collection.{valid_state, completion_fits, refusal_of, expected_of, look_of, move_of, ends, setup_of, step_of, answer_of, fault_said}
 use Rattle.collection.specs.Laws.{state_valid, not_refused, Says, says_nothing, move_cases}
 use Rattle.collection.specs.Steps.{ended_in, makes, setup_taken, setup_refused, refused_step, taken_step, first_bad, later_bad}
@@ -55,7 +54,7 @@ tells s ok h = move_cases (λ (m : Move). Tells s ok h (makes s h m)) s ok h (re
 
 module _ (s : Collection) (ok : Bool) (d : List ℕ) (n : ℕ) where
   -- what is at fault in the data, as a header of the collection's page
-  abbrev pub data_fault : Fault
+  abbrev pub data_fault : Option Fault
   data_fault = (check_of s.plan.page s.plan.caps.da4s d).fault
 
   -- the step takes a header that is judged, the first or a later one, that came with its 512 bytes, and in which something is at fault

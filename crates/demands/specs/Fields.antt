@@ -1,7 +1,7 @@
 -- Document 02, Q-2, of the header check: when a field is at fault, said in plain numbers of the bytes from the one that is told of it on; and that the check tells the first
 -- field that is, in document 02's order.
 -- Assumes nothing.
-use Rattle.std.specs.Prelude.{ℕ, ◌≤◌, ◌≡◌, refl, List, [], ◌∷◌, map, Bool, true, false, not, ◌&&◌, ◌||◌, length, get_or, ltb, leb, eqb}
+use Rattle.std.specs.Prelude.{ℕ, ◌≤◌, ◌≡◌, refl, List, [], ◌∷◌, map, Bool, true, false, not, ◌&&◌, ◌||◌, length, get_or, ltb, leb, eqb, Option, Some, None}
 use Rattle.std.proofs.Common.{ap, subst, ◌∙◌, arith, ltb-true, ltb-false, leb-true, leb-false, eqb-true, lt-ltb, le-ltb, le-leb, eq-eqb, ne_eqb}
 use Rattle.std.proofs.lemmas.Bool.{eqb-false}
 use Rattle.choices.specs.Choice.{pick, first_that, First}
@@ -11,7 +11,7 @@ use Rattle.littleendian.specs.Back.{Bytes, value_small}
 use Rattle.pages.specs.Pages.{host_page, telemetry_page, block, most3, most4}
 use Rattle.lastblocks.specs.LastBlocks.{area2_ok, area3_ok, area4_ok}
 use Rattle.header.specs.declared.Fault.{Fault}
-use Rattle.header.specs.declared.Fault.TheVariants.{None, Length, Identifier, Area2, Area3, Area4, Scope, Available, Empty}
+use Rattle.header.specs.declared.Fault.TheVariants.{Length, Identifier, Area2, Area3, Area4, Scope, Available, Empty}
 use Rattle.header.specs.Header.{fields_of, byte_of, fault_order, field_fault, header_faults, check_of}
 use Rattle.header.specs.Faults.{first_fault, fault_long}
 
@@ -22,11 +22,10 @@ order = Length ∷ Identifier ∷ Area2 ∷ Area3 ∷ Area4 ∷ Scope ∷ Availa
 module _ (page : ℕ) (da4s : Bool) (h : List ℕ) where
   -- the number of one, two or four bytes where a field starts
   abbrev pub value_there : ℕ → Fault → ℕ
-  value_there n x = value_at n (byte_of page x) h
+  value_there n x = value_at n (byte_of page (Some x)) h
 
   -- the field is at fault. Area 1's last block stands at byte 8. Available is any TCDA but 0, since one over 1 is told before available but empty
   abbrev pub at_fault : Fault → Bool
-  at_fault None = false
   at_fault Length = not (eqb (length h) block)
   at_fault Identifier = not (telemetry_page page && eqb (value_there 1 Identifier) page)
   at_fault Area2 = ltb (value_there 2 Area2) (value_at 2 8 h)
@@ -85,11 +84,11 @@ empty_is host tcda a3 = turned host (eqb tcda 0) (ltb 0 a3) ∙ rw (not_zero tcd
     turned false true z = refl
     turned false false z = refl
 
-scope_is : (page : ℕ) (h : List ℕ) → pick (eqb page host_page) (get_or h 380 0) (get_or h 381 0) ≡ get_or h (byte_of page Scope) 0
+scope_is : (page : ℕ) (h : List ℕ) → pick (eqb page host_page) (get_or h 380 0) (get_or h 381 0) ≡ get_or h (byte_of page (Some Scope)) 0
 scope_is page h = by_test (eqb page host_page) (λ e. rw e) (λ e. rw e)
 
 -- each test of the check's list, with its field, is that of the field
-pub tests_meant : (page : ℕ) (da4s : Bool) (h : List ℕ) → Bytes h → header_faults page da4s h ≡ map (λ (x : Fault). (at_fault page da4s h x, x)) order
+pub tests_meant : (page : ℕ) (da4s : Bool) (h : List ℕ) → Bytes h → header_faults page da4s h ≡ map (λ (x : Fault). (at_fault page da4s h x, Some x)) order
 tests_meant page da4s h b =
     let small = value_small 2 12 h b in
     rw (
@@ -97,19 +96,19 @@ tests_meant page da4s h b =
       area3_is (value_at 2 8 h ∷ value_at 2 10 h ∷ value_at 2 12 h ∷ value_at 4 16 h ∷ []) (omega (arith, small)),
       area4_is da4s (value_at 2 12 h) (value_at 4 16 h),
       scope_is page h,
-      not_leb (get_or h (byte_of page Scope) 0) 2,
+      not_leb (get_or h (byte_of page (Some Scope)) 0) 2,
       not_leb (get_or h 382 0) 1,
       empty_is (eqb page host_page) (get_or h 382 0) (value_at 2 12 h),
     )
 
 -- so what the check tells is the first field that is at fault
 pub first_at_fault : (page : ℕ) (da4s : Bool) (h : List ℕ) → Bytes h
-    → First (map (λ (x : Fault). (at_fault page da4s h x, x)) order) None (check_of page da4s h).fault
+    → First (map (λ (x : Fault). (at_fault page da4s h x, Some x)) order) None (check_of page da4s h).fault
 first_at_fault page da4s h b =
-    subst (λ (rows : List (Bool × Fault)). First rows None (check_of page da4s h).fault) (tests_meant page da4s h b) (first_fault page da4s h)
+    subst (λ (rows : List (Bool × Option Fault)). First rows None (check_of page da4s h).fault) (tests_meant page da4s h b) (first_fault page da4s h)
 
 -- of 512 bytes it is never the length
-pub not_length : (page : ℕ) (da4s : Bool) (h : List ℕ) → length h ≡ block → (check_of page da4s h).fault ≡ Length → ⊥
+pub not_length : (page : ℕ) (da4s : Bool) (h : List ℕ) → length h ≡ block → (check_of page da4s h).fault ≡ Some Length → ⊥
 unfolding check_of field_fault
 not_length page da4s h l e =
     let f = fields_of page h in
@@ -117,7 +116,7 @@ not_length page da4s h l e =
     (area4_ok da4s (get_or f.last 2 0) (get_or f.last 3 0)) (leb f.scope 2) (leb f.tcda 1)
     (eqb page host_page || eqb f.tcda 0 || ltb 0 (get_or f.last 2 0)) (fault_long page da4s h l ∙ e)
   where
-    other : (i a b c s t e : Bool) → first_that (fault_order i a b c s t e) None ≡ Length → ⊥
+    other : (i a b c s t e : Bool) → first_that (fault_order i a b c s t e) None ≡ Some Length → ⊥
     other false a b c s t e q = clash {t = true} refl cc
     other true false b c s t e q = clash {t = true} refl cc
     other true true false c s t e q = clash {t = true} refl cc

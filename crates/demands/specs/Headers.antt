@@ -2,7 +2,7 @@
 -- to them where the plan is not refused; and a page has its size.
 -- Assumes nothing.
 use Prim.Native.Nat.{ℕ, ◌*◌, ◌≤◌}
-use Rattle.std.specs.Prelude.{◌≡◌, refl, Bool, true, length}
+use Rattle.std.specs.Prelude.{◌≡◌, refl, Bool, true, length, None}
 use Rattle.std.proofs.Common.{sym, ◌∙◌, arith, length-take, length-append, take-take, take_at}
 use Rattle.std.proofs.Math.Path.{ap, subst}
 use mathlib.Core.List.{List, ◌++◌, append_assoc}
@@ -15,11 +15,8 @@ use Rattle.pages.specs.declared.Caps.{Caps}
 use Rattle.pages.specs.Pages.{block, telemetry_page, size_of}
 use Rattle.words.specs.declared.Command.{Command}
 use Rattle.words.specs.declared.Words.{Words}
-use Rattle.header.specs.declared.Fault.TheVariants.{None}
-use Rattle.header.specs.declared.Checked.{Checked}
-use Rattle.header.specs.Header.{header_of, faultless, check_of}
-use Rattle.completions.specs.declared.Planned.{Planned}
-use Rattle.completions.specs.Plan.{plan_of}
+use Rattle.header.specs.Header.{header_of, faultless, Checked, check_of}
+use Rattle.completions.specs.Plan.{Planned, plan_of}
 use Rattle.completions.specs.Planned.{planned_good, planned_bad_only}
 use Rattle.records.specs.Records.{fields_for, blocks_for, size_for}
 use Rattle.records.specs.Back.{Typed, record_reads_back}

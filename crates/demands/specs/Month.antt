@@ -1,20 +1,18 @@
 -- Document 02, Q-12: what a collection that has ended is to the month's sheet. Every ending that a collection has can be entered, no other number can, and
 -- no such run is refused with 13. The sheet's entries give the answers that the paper has for them.
 -- Assumes nothing.
-use Rattle.std.specs.Prelude.{ℕ, ◌-◌, ◌≡◌, refl, [], ◌∷◌, Bool, true, false, ◌||◌, eqb}
+use Rattle.std.specs.Prelude.{ℕ, ◌-◌, ◌≡◌, refl, [], ◌∷◌, Bool, true, false, ◌||◌, eqb, None}
 use Rattle.std.proofs.Common.{sym, eqb-true}
 use Rattle.choices.specs.Choice.{pick, pick_cases}
 use Rattle.choices.specs.Tests.{or_cases}
 use Rattle.answers.specs.Answers.{success, bad_header, no_room, attempts_used_up, withdrawn, nothing, broke_its_word, bad_setup, total_full}
-use Rattle.header.specs.declared.Fault.TheVariants.{None}
 use Rattle.plans.specs.Plans.{area_last}
 use Rattle.endings.specs.declared.Ending.{Ending}
 use Rattle.endings.specs.declared.Ending.TheVariants.{Success, BadHeader, OutOfReach, NoRoom, UsedUp, Withdrawn, Nothing, BrokeItsWord}
 use Rattle.endings.specs.Endings.{number_of}
 use Rattle.collection.specs.declared.Collection.{Collection}
 use Rattle.sheets.specs.declared.Sheet.{Sheet}
-use Rattle.sheets.specs.declared.Entered.{Entered}
-use Rattle.sheets.specs.Sheets.{all_fit, add_of}
+use Rattle.sheets.specs.Sheets.{Entered, all_fit, add_of}
 use Rattle.entries.specs.declared.Run.{Run}
 use Rattle.entries.specs.Entries.{single, is_ending, is_run, enter_of}
 use Rattle.demands.specs.Answers.{among}

@@ -22,14 +22,13 @@ use Rattle.phases.specs.Asked.{chunk_in, chunk_blocks, inside_by, within_by, wor
 use Rattle.plans.specs.Limits.{fits_reach}
 use Rattle.phases.specs.Chunks.{chunk_inside, chunk_short, phase_close}
 use Rattle.phases.specs.Awaited.{command_by, asks_offset, ask_few, awaited_built}
-use Rattle.completions.specs.declared.Planned.{Planned}
-use Rattle.completions.specs.Plan.{plan_by}
+use Rattle.completions.specs.Plan.{Planned, plan_by}
 use Rattle.completions.specs.Planned.{planned_good}
 use Rattle.completions.specs.Completions.{seen_of, look_by}
 use Rattle.completions.specs.Looked.{success_opens, opens_chunks}
 use Rattle.turns.specs.Turns.{following_of}
 use Rattle.collection.specs.declared.Collection.{Collection}
-use Rattle.collection.specs.declared.Decided.{Decided}
+use Rattle.collection.specs.Told.{Decided}
 use Rattle.collection.specs.Collection.{awaited_of, look_of, valid_state, refusal_of, decide_of, step_of, copy_after}
 use Rattle.collection.specs.Laws.{state_valid, not_refused}
 use Rattle.collection.specs.Steps.{awaited_taken, refused_copy, chunk_good}

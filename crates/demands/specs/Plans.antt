@@ -1,6 +1,6 @@
 -- Document 02, Q-4 and Q-10, said directly: the plan's answer is the first of its order, and a collection answers its first header just as the plan does and goes on from what the plan gives.
 -- Assumes nothing.
-use Rattle.std.specs.Prelude.{ℕ, ◌≡◌, List, [], ◌∷◌, not, length}
+use Rattle.std.specs.Prelude.{ℕ, ◌≡◌, List, [], ◌∷◌, not, length, None}
 use Rattle.std.proofs.Math.Path.{refl, ap}
 use Rattle.std.proofs.Common.{sym, ◌∙◌, arith}
 use Rattle.std.proofs.Math.Bool.{true, false}
@@ -9,15 +9,13 @@ use Rattle.choices.specs.Choice.{First, first_that_lem}
 use Rattle.choices.specs.Tests.{holds}
 use Rattle.answers.specs.Answers.{success, no_area4, bad_header, no_room, nothing, bad_setup, out_of_reach}
 use Rattle.pages.specs.declared.Caps.{Caps}
-use Rattle.header.specs.declared.Fault.TheVariants.{None}
 use Rattle.header.specs.Header.{faultless, check_of}
 use Rattle.header.specs.Faults.{faultless_none}
 use Rattle.phases.specs.declared.Phase.TheVariants.{First as FirstHeader}
 use Rattle.plans.specs.Plans.{plan_tests, without_area4, setup_answer, fits_room, in_reach}
 use Rattle.plans.specs.Limits.{short_is}
-use Rattle.completions.specs.declared.Planned.{Planned}
 use Rattle.completions.specs.declared.Seen.{Seen}
-use Rattle.completions.specs.Plan.{least_plan, no_data, answer_to, plan_of, plan_by}
+use Rattle.completions.specs.Plan.{Planned, least_plan, no_data, answer_to, plan_of, plan_by}
 use Rattle.completions.specs.Planned.{planned_answer, planned_good, planned_refused}
 use Rattle.completions.specs.Completions.{planned_seen, seen_of}
 use Rattle.completions.specs.Looked.{by_plan, success_opens}

@@ -1,10 +1,9 @@
 -- The paper's number and values of each ending.
 -- Assumes nothing.
-use Rattle.std.specs.Prelude.{ℕ, Bool, false, eqb}
+use Rattle.std.specs.Prelude.{ℕ, Bool, false, Option, None, eqb}
 use Rattle.choices.specs.Choice.{pick}
 use Rattle.answers.specs.Answers.{success, bad_header, no_room, attempts_used_up, withdrawn, nothing, broke_its_word, out_of_reach}
 use Rattle.header.specs.declared.Fault.{Fault}
-use Rattle.header.specs.declared.Fault.TheVariants.{None}
 use Rattle.endings.specs.declared.Ending.{Ending}
 use Rattle.endings.specs.declared.Ending.TheVariants.{Success, BadHeader, OutOfReach, NoRoom, UsedUp, Withdrawn, Nothing, BrokeItsWord}
 
@@ -31,7 +30,7 @@ newer_of Nothing = false
 newer_of BrokeItsWord = false
 
 -- what is at fault in the header that it came by; nothing with any ending but a bad header's
-abbrev pub fault_in : Ending → Fault
+abbrev pub fault_in : Ending → Option Fault
 fault_in (Success unread) = None
 fault_in (BadHeader fault) = fault
 fault_in OutOfReach = None

@@ -4,8 +4,7 @@ use Rattle.std.specs.Prelude.{ℕ, map, Bool, ◌&&◌, ◌||◌, eqb}
 use Rattle.choices.specs.Choice.{pick, one}
 use Rattle.answers.specs.Answers.{success, bad_setup}
 use Rattle.sheets.specs.declared.Sheet.{Sheet}
-use Rattle.sheets.specs.declared.Entered.{Entered}
-use Rattle.sheets.specs.Sheets.{one_of, endings, answered, add_of}
+use Rattle.sheets.specs.Sheets.{Entered, one_of, endings, answered, add_of}
 use Rattle.entries.specs.declared.Run.{Run}
 
 -- the sheet of one run

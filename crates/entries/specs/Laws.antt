@@ -8,8 +8,7 @@ use Rattle.choices.specs.Choice.{pick, one}
 use Rattle.choices.specs.Tests.{by_test}
 use Rattle.answers.specs.Answers.{success, bad_setup, total_full}
 use Rattle.sheets.specs.declared.Sheet.{Sheet}
-use Rattle.sheets.specs.declared.Entered.{Entered}
-use Rattle.sheets.specs.Sheets.{endings, blank, plus, all_fit, answered, add_of}
+use Rattle.sheets.specs.Sheets.{Entered, endings, blank, plus, all_fit, answered, add_of}
 use Rattle.sheets.specs.Sums.{plus_assoc, plus_swap, plus_none, none_plus, is_fit, fit_swap, fit_without, fit_both, fit_then, fit_first, fit_sum}
 use Rattle.sheets.specs.Laws.{blank_fit, add_taken, add_fits}
 use Rattle.entries.specs.declared.Run.{Run}

@@ -6,13 +6,16 @@
 #![tactic(auto)]
 
 ghost use Rattle.std.specs.Prelude.{◌≡◌};
-ghost use Rattle.answers.specs.Answers.{bad_setup};
-ghost use Rattle.sheets.specs.Sheets.{answered};
-ghost use Rattle.entries.specs.Entries.{single, is_run, enter_of};
+ghost use Rattle.answers.specs.Answers.{result_number};
+ghost use Rattle.sheets.specs.Sheets.{outcome};
+ghost use Rattle.entries.specs.Entries.{enter_of};
+ghost use Rattle.entries.specs.Steps.{place_among, place_of, alone};
 
-use sheets::{Entered, Sheet};
+use answers::Refusal;
+use sheets::Sheet;
 
 // A finished run: the number of its ending, the blocks kept, the commands sent and the attempts that failed.
+// The ending is any number, since C may enter any, and the theorem no_endings speaks of those that no run has.
 #[derive(Clone, Copy)]
 pub struct Run {
     pub ending: u8,
@@ -21,80 +24,64 @@ pub struct Run {
     pub failed: u64,
 }
 
-// The sheet of one run.
-fn single_of(run: Run) -> Sheet
-    ensures { result ≡ single run }
+// The endings that a run has, in the order in which a sheet counts their runs.
+const ENDINGS: [u8; 8] = [
+    answers::SUCCESS,
+    answers::BAD_HEADER,
+    answers::NO_ROOM,
+    answers::ATTEMPTS_USED_UP,
+    answers::WITHDRAWN,
+    answers::NOTHING,
+    answers::BROKE_ITS_WORD,
+    answers::OUT_OF_REACH,
+];
+
+// The place of an ending among them; none of a number that is no ending of a run.
+fn place_among(ending: u8) -> Option<usize>
+    ensures { result ≡ place_among ending }
 {
-    let ending = run.ending;
-    let success = (ending == answers::SUCCESS) as u64;
-    let bad_header = (ending == answers::BAD_HEADER) as u64;
-    let no_room = (ending == answers::NO_ROOM) as u64;
-    let used_up = (ending == answers::ATTEMPTS_USED_UP) as u64;
-    let withdrawn = (ending == answers::WITHDRAWN) as u64;
-    let nothing = (ending == answers::NOTHING) as u64;
-    let broke_its_word = (ending == answers::BROKE_ITS_WORD) as u64;
-    let out_of_reach = (ending == answers::OUT_OF_REACH) as u64;
-    let runs = [
-        success,
-        bad_header,
-        no_room,
-        used_up,
-        withdrawn,
-        nothing,
-        broke_its_word,
-        out_of_reach,
-    ];
-    Sheet {
-        runs,
-        blocks: run.blocks,
-        commands: run.commands,
-        failed: run.failed,
+    ENDINGS.iter().position(|e| *e == ending)
+}
+
+// Where a run is counted. None of a run that cannot be: it has an ending that a run has, and blocks with 0 alone.
+fn place_of(run: Run) -> Option<usize>
+    ensures { result ≡ place_of run }
+{
+    let place = place_among(run.ending)?;
+    ((run.ending == answers::SUCCESS) | (run.blocks == 0)).then_some(place)
+}
+
+// The sheet of one run, or 13 for a run that cannot be.
+impl TryFrom<Run> for Sheet {
+    type Error = Refusal;
+
+    ghost try_from_gives = { λ run sheet. sheet ≡ alone run };
+
+    fn try_from(run: Run) -> Result<Sheet, Refusal> {
+        let place = place_of(run).ok_or(Refusal::BadSetup)?;
+        let mut runs = [0; 8];
+        runs[place] = 1;
+        Ok(Sheet {
+            runs,
+            blocks: run.blocks,
+            commands: run.commands,
+            failed: run.failed,
+        })
     }
 }
 
-// A run that can be: it has an ending that a run has, and blocks with 0 alone.
-fn is_run(run: Run) -> bool
-    ensures { result ≡ is_run run }
+// A run added to the sheet: what adding the sheet of that run gives, or 13.
+pub fn add_run(sheet: Sheet, run: Run) -> Result<Sheet, Refusal>
+    ensures { outcome sheet result ≡ enter_of sheet run }
 {
-    let ending = run.ending;
-    let ended = (ending == answers::SUCCESS)
-        | (ending == answers::BAD_HEADER)
-        | (ending == answers::NO_ROOM)
-        | (ending == answers::ATTEMPTS_USED_UP)
-        | (ending == answers::WITHDRAWN)
-        | (ending == answers::NOTHING)
-        | (ending == answers::BROKE_ITS_WORD)
-        | (ending == answers::OUT_OF_REACH);
-    ended & ((ending == answers::SUCCESS) | (run.blocks == 0))
+    sheet.add(Sheet::try_from(run)?)
 }
 
-// What a run that cannot be gets.
-fn refused(sheet: Sheet) -> Entered
-    ensures { result ≡ answered bad_setup sheet }
-{
-    Entered {
-        answer: answers::BAD_SETUP,
-        sheet,
-    }
-}
-
-// A run added to the sheet: 13 and the sheet as it was, or what adding the sheet of that run gives.
-pub fn add_run(sheet: Sheet, run: Run) -> Entered
-    ensures { result ≡ enter_of sheet run }
-{
-    if is_run(run) {
-        sheets::add(sheet, single_of(run))
-    } else {
-        refused(sheet)
-    }
-}
-
-// Enters a run into the sheet that is lent.
-pub fn enter(sheet: &mut Sheet, run: Run) -> u8
-    ensures { (result ≡ (enter_of sheet.old run).answer)
+// Enters a run into the sheet that is lent: with a refusal it stays as it was.
+pub fn enter(sheet: &mut Sheet, run: Run) -> Result<(), Refusal>
+    ensures { (result_number result ≡ (enter_of sheet.old run).answer)
         × (sheet.new ≡ (enter_of sheet.old run).sheet) }
 {
-    let x = add_run(*sheet, run);
-    *sheet = x.sheet;
-    x.answer
+    *sheet = add_run(*sheet, run)?;
+    Ok(())
 }

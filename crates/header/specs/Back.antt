@@ -1,6 +1,6 @@
 -- What is written is read back: the check of a header's bytes gives the fields that it was written from. One theorem over both pages.
 -- Assumes nothing.
-use Rattle.std.specs.Prelude.{ℕ, ◌+◌, ◌*◌, ◌/◌, ◌%◌, ◌<◌, ◌≡◌, refl, List, [], ◌∷◌, ◌++◌, Bool, true, false, length, get_or, eqb}
+use Rattle.std.specs.Prelude.{ℕ, ◌+◌, ◌*◌, ◌/◌, ◌%◌, ◌<◌, ◌≡◌, refl, List, [], ◌∷◌, ◌++◌, Bool, true, false, Option, Some, None, length, get_or, eqb}
 use Rattle.std.proofs.Common.{sym, ap, ◌∙◌, arith, take_all}
 use Rattle.choices.specs.Choice.{pick}
 use Rattle.choices.specs.Tests.{each}
@@ -13,7 +13,7 @@ use Rattle.pages.specs.Pages.{host_page, block, per_page}
 use Rattle.lastblocks.specs.Rule.{LastRule, last_rule}
 use Rattle.header.specs.declared.Fields.{Fields}
 use Rattle.header.specs.declared.Fault.{Fault}
-use Rattle.header.specs.declared.Fault.TheVariants.{None, Length}
+use Rattle.header.specs.declared.Fault.TheVariants.{Length}
 use Rattle.header.specs.Header.{numbers, marks, header_of, last_at, fields_of, fields_ok, faultless, field_fault, no_fields, checked_by, check_of}
 use Rattle.header.specs.Faults.{faultless_none, faultless_fields, fault_short, fault_long}
 
@@ -91,25 +91,25 @@ fields_are page h t o w v u r s g =
     rw (o, w, v, u, r, s, g, oui, area1, area2, area3)
 
 -- what a check answers of a header of another length, of one at fault, and of a good one
-pub check_short : (page : ℕ) (da4s : Bool) (h : List ℕ) → (length h ≡ block → ⊥) → record { fault = Length; fields = no_fields } ≡ check_of page da4s h
+pub check_short : (page : ℕ) (da4s : Bool) (h : List ℕ) → (length h ≡ block → ⊥) → record { fault = Some Length; fields = no_fields } ≡ check_of page da4s h
 unfolding check_of
 check_short page da4s h l = rw (← fault_short page da4s h l)
 
-check_long : (page : ℕ) (da4s : Bool) (h : List ℕ) (f : Fields) (x : Fault)
+check_long : (page : ℕ) (da4s : Bool) (h : List ℕ) (f : Fields) (x : Option Fault)
     → length h ≡ block → f ≡ fields_of page h → x ≡ field_fault page da4s f → checked_by x f ≡ check_of page da4s h
 unfolding check_of
 check_long page da4s h f x l e q =
-    ap (λ (y : Fault). checked_by y f) q
+    ap (λ (y : Option Fault). checked_by y f) q
     ∙ ap (λ (g : Fields). checked_by (field_fault page da4s g) g) e
-    ∙ ap (λ (y : Fault). checked_by y (fields_of page h)) (fault_long page da4s h l)
+    ∙ ap (λ (y : Option Fault). checked_by y (fields_of page h)) (fault_long page da4s h l)
 
-pub check_bad : (page : ℕ) (da4s : Bool) (h : List ℕ) (f : Fields) (x : Fault) {t : Bool}
+pub check_bad : (page : ℕ) (da4s : Bool) (h : List ℕ) (f : Fields) (x : Option Fault) {t : Bool}
     → length h ≡ block → f ≡ fields_of page h → x ≡ field_fault page da4s f → t ≡ faultless x → t ≡ false
     → record { fault = x; fields = no_fields } ≡ check_of page da4s h
 check_bad page da4s h f x l e q k b =
     let n : record { fault = x; fields = no_fields } ≡ checked_by x f = rw (sym k ∙ b) in n ∙ check_long page da4s h f x l e q
 
-pub check_good : (page : ℕ) (da4s : Bool) (h : List ℕ) (f : Fields) (x : Fault) {t : Bool}
+pub check_good : (page : ℕ) (da4s : Bool) (h : List ℕ) (f : Fields) (x : Option Fault) {t : Bool}
     → length h ≡ block → f ≡ fields_of page h → x ≡ field_fault page da4s f → t ≡ faultless x → t ≡ true
     → record { fault = x; fields = f } ≡ check_of page da4s h
 check_good page da4s h f x l e q k b =

@@ -1,7 +1,7 @@
 -- Document 01, "Header bytes, both pages" and, under "Host", when a header is bad; and document 02, Q-2, what is at fault in it and where. One definition serves both
 -- pages: the page's number is a field.
 -- Assumes nothing.
-use Rattle.std.specs.Prelude.{ℕ, List, [], ◌∷◌, ◌++◌, Bool, true, false, not, ◌&&◌, ◌||◌, length, get_or, ltb, leb, eqb}
+use Rattle.std.specs.Prelude.{ℕ, List, [], ◌∷◌, ◌++◌, Bool, true, false, not, ◌&&◌, ◌||◌, Option, Some, None, Result, Ok, Err, length, get_or, ltb, leb, eqb}
 use Rattle.choices.specs.Choice.{pick, first_that}
 use Rattle.choices.specs.Tests.{holds}
 use Rattle.copies.specs.Parts.{zeros}
@@ -11,8 +11,7 @@ use Rattle.pages.specs.Pages.{host_page, telemetry_page, block, per_page}
 use Rattle.lastblocks.specs.LastBlocks.{area2_ok, area3_ok, area4_ok, last_ok}
 use Rattle.header.specs.declared.Fields.{Fields}
 use Rattle.header.specs.declared.Fault.{Fault}
-use Rattle.header.specs.declared.Fault.TheVariants.{None, Length, Identifier, Area2, Area3, Area4, Scope, Available, Empty}
-use Rattle.header.specs.declared.Checked.{Checked}
+use Rattle.header.specs.declared.Fault.TheVariants.{Length, Identifier, Area2, Area3, Area4, Scope, Available, Empty}
 
 -- bytes 0 to 19, by ranges as the paper gives them
 abbrev pub numbers : ℕ → ℕ → List ℕ → List ℕ
@@ -72,43 +71,36 @@ fields_ok page da4s f =
     ∷ [])
 
 -- nothing is at fault
-abbrev pub faultless : Fault → Bool
+abbrev pub faultless : Option Fault → Bool
 faultless None = true
-faultless Length = false
-faultless Identifier = false
-faultless Area2 = false
-faultless Area3 = false
-faultless Area4 = false
-faultless Scope = false
-faultless Available = false
-faultless Empty = false
+faultless (Some x) = false
 
 -- the byte at which the field at fault starts: a length is told at byte 0, and available but empty at area 3's last block
-abbrev pub byte_of : ℕ → Fault → ℕ
+abbrev pub byte_of : ℕ → Option Fault → ℕ
 byte_of page None = 0
-byte_of page Length = 0
-byte_of page Identifier = 0
-byte_of page Area2 = 10
-byte_of page Area3 = 12
-byte_of page Area4 = 16
-byte_of page Scope = per_page page 380 381
-byte_of page Available = 382
-byte_of page Empty = 12
+byte_of page (Some Length) = 0
+byte_of page (Some Identifier) = 0
+byte_of page (Some Area2) = 10
+byte_of page (Some Area3) = 12
+byte_of page (Some Area4) = 16
+byte_of page (Some Scope) = per_page page 380 381
+byte_of page (Some Available) = 382
+byte_of page (Some Empty) = 12
 
 -- the faults of a header's fields in their order, from what is as it should be
-abbrev pub fault_order : Bool → Bool → Bool → Bool → Bool → Bool → Bool → List (Bool × Fault)
+abbrev pub fault_order : Bool → Bool → Bool → Bool → Bool → Bool → Bool → List (Bool × Option Fault)
 fault_order identifier area2 area3 area4 scope available some =
-    (not identifier, Identifier)
-    ∷ (not area2, Area2)
-    ∷ (not area3, Area3)
-    ∷ (not area4, Area4)
-    ∷ (not scope, Scope)
-    ∷ (not available, Available)
-    ∷ (not some, Empty)
+    (not identifier, Some Identifier)
+    ∷ (not area2, Some Area2)
+    ∷ (not area3, Some Area3)
+    ∷ (not area4, Some Area4)
+    ∷ (not scope, Some Scope)
+    ∷ (not available, Some Available)
+    ∷ (not some, Some Empty)
     ∷ []
 
 -- the tests of a header's fields, asked for as this page, each with its fault
-abbrev pub field_faults : ℕ → Bool → Fields → List (Bool × Fault)
+abbrev pub field_faults : ℕ → Bool → Fields → List (Bool × Option Fault)
 field_faults page da4s f =
     fault_order
     (telemetry_page page && eqb f.page page)
@@ -120,25 +112,35 @@ field_faults page da4s f =
     (eqb page host_page || eqb f.tcda 0 || ltb 0 (get_or f.last 2 0))
 
 -- the first of them, or none
-unfoldable pub field_fault : ℕ → Bool → Fields → Fault
+unfoldable pub field_fault : ℕ → Bool → Fields → Option Fault
 field_fault page da4s f = first_that (field_faults page da4s f) None
 
 -- all of a header's tests: its length comes first
-abbrev pub header_faults : ℕ → Bool → List ℕ → List (Bool × Fault)
-header_faults page da4s h = (not (eqb (length h) block), Length) ∷ field_faults page da4s (fields_of page h)
+abbrev pub header_faults : ℕ → Bool → List ℕ → List (Bool × Option Fault)
+header_faults page da4s h = (not (eqb (length h) block), Some Length) ∷ field_faults page da4s (fields_of page h)
 
 -- the first of them, or none
-unfoldable pub fault_of : ℕ → Bool → List ℕ → Fault
+unfoldable pub fault_of : ℕ → Bool → List ℕ → Option Fault
 fault_of page da4s h = first_that (header_faults page da4s h) None
 
 -- the fields of a header with a fault: it yields none
 unfoldable pub no_fields : Fields
 no_fields = record { page = 0; oui = 0; last = zeros 4; scope = 0; hostgeneration = 0; tcda = 0; controllergeneration = 0; reason = zeros 128 }
 
+-- what a check answers: the fields where nothing is at fault, or the fault with zeros in their place
+pub record Checked : Type 0 where
+  pub fault : Option Fault
+  pub fields : Fields
+
 -- what a check answers of a fault and the fields read
-abbrev pub checked_by : Fault → Fields → Checked
+abbrev pub checked_by : Option Fault → Fields → Checked
 checked_by x f = record { fault = x; fields = pick (faultless x) f no_fields }
 
 -- the check: the first fault, and the fields where there is none
 unfoldable pub check_of : ℕ → Bool → List ℕ → Checked
 check_of page da4s h = checked_by (fault_of page da4s h) (fields_of page h)
+
+-- what a check that gives the fields or the fault answers
+abbrev pub checked : Result Fields Fault → Checked
+checked (Ok f) = record { fault = None; fields = f }
+checked (Err x) = record { fault = Some x; fields = no_fields }

@@ -1,3 +1,4 @@
 pub mod Header
 pub mod Faults
 pub mod Back
+pub mod Default

@@ -10,9 +10,9 @@ ghost use Rattle.copies.specs.Parts.{zeros};
 ghost use Rattle.arrays.specs.Arrays.{fours_of};
 ghost use Rattle.header.specs.Header.{numbers, marks, header_of, faultless, byte_of};
 
-// What a header says. `hostgeneration` is the host generation, which an 08h header does not have: 0 there. `controllergeneration` is the controller
+// What a header says: page, scope and TCDA are any numbers, since a header may have bad ones, which `field_fault` tells. `hostgeneration` is the host generation, which an 08h header does not have: 0 there. `controllergeneration` is the controller
 // generation.
-#[derive(Clone, Copy)]
+#[derive(Clone, Copy, Default)]
 pub struct Fields {
     pub page: u8,
     pub oui: u32,
@@ -25,10 +25,8 @@ pub struct Fields {
 }
 
 // What is at fault in a header: the first of these, in this order, of what a good header has otherwise.
-#[derive(Clone, Copy)]
+#[derive(Clone, Copy, PartialEq, Eq)]
 pub enum Fault {
-    // Nothing: the header is good.
-    None,
     // It has not 512 bytes.
     Length,
     // Its identifier is not the page asked for, or that is neither 07h nor 08h.
@@ -47,20 +45,13 @@ pub enum Fault {
     Empty,
 }
 
-// What a check answers: the fields where nothing is at fault, or the fault with zeros in their place.
-#[derive(Clone, Copy)]
-pub struct Checked {
-    pub fault: Fault,
-    pub fields: Fields,
-}
-
 // Bytes 380 to 383.
 fn marks_of(f: Fields) -> [u8; 4]
     ensures { result ≡ marks f }
 {
     let host = f.page == pages::HOST;
-    let first = choices::pick_u8(host, f.scope, 0);
-    let second = choices::pick_u8(host, f.hostgeneration, f.scope);
+    let first = choices::pick(host, f.scope, 0);
+    let second = choices::pick(host, f.hostgeneration, f.scope);
     [first, second, f.tcda, f.controllergeneration]
 }
 
@@ -86,44 +77,32 @@ pub fn write(f: Fields) -> [u8; 512]
 {
     let last = f.last;
     let reason = f.reason;
+    let words = words_of(f.oui, last);
     let mut out = [0u8; 512];
     out[0] = f.page;
-    arrays::put_fours(&mut out, 4, words_of(f.oui, last));
+    arrays::put_all(&mut out, 4, &words);
     copies::put(&marks_of(f), &mut out, 380);
     arrays::put_reason(&mut out, 384, reason);
     out
 }
 
-// Nothing is at fault.
-pub fn faultless(x: Fault) -> bool
+// Nothing is at fault. It stands beside `is_none`, since docs/PROMISES.md names it and two must-fail edits turn what it answers.
+pub fn faultless(x: Option<Fault>) -> bool
     ensures { result ≡ faultless x }
 {
-    match x {
-        Fault::None => true,
-        Fault::Length => false,
-        Fault::Identifier => false,
-        Fault::Area2 => false,
-        Fault::Area3 => false,
-        Fault::Area4 => false,
-        Fault::Scope => false,
-        Fault::Available => false,
-        Fault::Empty => false,
-    }
+    x.is_none()
 }
 
 // The byte at which the field at fault starts in a header of this page; 0 where nothing is at fault.
-pub fn byte_of(page: u8, x: Fault) -> u16
+pub fn byte_of(page: u8, x: Option<Fault>) -> u16
     ensures { result ≡ byte_of page x }
 {
     match x {
-        Fault::None => 0,
-        Fault::Length => 0,
-        Fault::Identifier => 0,
-        Fault::Area2 => 10,
-        Fault::Area3 => 12,
-        Fault::Area4 => 16,
-        Fault::Scope => if page == pages::HOST { 380 } else { 381 },
-        Fault::Available => 382,
-        Fault::Empty => 12,
+        None | Some(Fault::Length | Fault::Identifier) => 0,
+        Some(Fault::Area2) => 10,
+        Some(Fault::Area3 | Fault::Empty) => 12,
+        Some(Fault::Area4) => 16,
+        Some(Fault::Scope) => if page == pages::HOST { 380 } else { 381 },
+        Some(Fault::Available) => 382,
     }
 }

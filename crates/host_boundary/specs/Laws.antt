@@ -15,7 +15,7 @@ use Rattle.judgement.specs.declared.Move.{Move}
 use Rattle.judgement.specs.declared.Move.TheVariants.{End, Open, More, Skip, Acknowledge}
 use Rattle.plans.specs.Plans.{plan_tests, setup_answer}
 use Rattle.collection.specs.declared.Collection.{Collection}
-use Rattle.collection.specs.declared.Stepped.{Stepped}
+use Rattle.collection.specs.Told.{Stepped}
 use Rattle.collection.specs.Collection.{refusal_of, look_of, move_of, step_of}
 use Rattle.collection.specs.Steps.{makes, refused_copy, taken_step}
 use Rattle.shared_layouts.specs.Layouts.{most_caps, caps_of}

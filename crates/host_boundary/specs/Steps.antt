@@ -4,13 +4,12 @@ use Rattle.std.specs.Prelude.{ℕ, ◌≡◌, List, Bool, true, false, not, leng
 use Rattle.std.proofs.Common.{sym, ap, ◌∙◌}
 use borrow.Author.Tests.{eq-eqb, ne_eqb, not-true, not-false}
 use Rattle.answers.specs.Answers.{bad_setup}
-use Rattle.words.specs.declared.Built.{Built}
+use Rattle.words.specs.Words.{Built}
 use Rattle.pages.specs.declared.Caps.{Caps}
-use Rattle.completions.specs.declared.Planned.{Planned}
-use Rattle.completions.specs.Plan.{plan_of}
+use Rattle.completions.specs.Plan.{Planned, plan_of}
 use Rattle.collection.specs.declared.Collection.{Collection}
-use Rattle.collection.specs.declared.Next.TheVariants.{Refuse}
-use Rattle.collection.specs.declared.Stepped.{Stepped}
+use Rattle.collection.specs.Told.{Refuse}
+use Rattle.collection.specs.Told.{Stepped}
 use Rattle.collection.specs.Collection.{step_of, copy_after}
 use Rattle.planned_layout.specs.Layout.{planned_bytes}
 use Rattle.state_layout.specs.Layout.{state_bytes, state_at, state_intact}

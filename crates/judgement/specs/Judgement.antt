@@ -1,11 +1,12 @@
 -- Document 01, "Host: header check and collection", and document 02, Q-1, Q-4 and Q-10, on what a completion calls for: first what it tells, test by test, and
 -- then the orders of endings over the tests. h is what is seen of its data, a the attempt.
 -- Assumes nothing.
-use Rattle.std.specs.Prelude.{ℕ, [], ◌∷◌, Bool, true, false, not, ◌&&◌, leb, eqb}
+use Rattle.std.specs.Prelude.{ℕ, [], ◌∷◌, Bool, true, false, Option, not, ◌&&◌, leb, eqb}
 use Rattle.choices.specs.Choice.{first_that}
 use Rattle.answers.specs.Answers.{bad_header, no_room, nothing, out_of_reach}
 use Rattle.pages.specs.Pages.{controller_page}
 use Rattle.lastblocks.specs.LastBlocks.{same_last}
+use Rattle.header.specs.declared.Fault.{Fault}
 use Rattle.header.specs.Header.{faultless}
 use Rattle.plans.specs.declared.Plan.{Plan}
 use Rattle.phases.specs.declared.Phase.{Phase}
@@ -14,7 +15,6 @@ use Rattle.plans.specs.Plans.{area_answer}
 use Rattle.completions.specs.declared.Seen.{Seen}
 use Rattle.completions.specs.Completions.{shows_none}
 use Rattle.phases.specs.declared.Attempt.{Attempt}
-use Rattle.judgement.specs.declared.Tests.{Tests}
 use Rattle.endings.specs.declared.Ending.TheVariants.{Success, BadHeader, OutOfReach, NoRoom, UsedUp, Withdrawn, Nothing, BrokeItsWord}
 use Rattle.judgement.specs.declared.Move.{Move}
 use Rattle.judgement.specs.declared.Move.TheVariants.{End, Open, More, Skip, Acknowledge}
@@ -28,6 +28,21 @@ matches a h = eqb h.generation a.generation && same_last h.last a.last
 -- the acknowledgement shows another generation than the attempt's header
 abbrev pub newer_than : Attempt → Seen → Bool
 newer_than a h = not (eqb h.generation a.generation)
+
+-- what a completion tells of an attempt, test by test: it is refused; what the plan from a first header answers; a header's fault, and that it has one; an
+-- 08h header shows no data; what speaks against the area; the header matches the attempt's, in its generation and all four last blocks; its
+-- generation is another; no attempt is left; the page is one to acknowledge
+pub record Tests : Type 0 where
+  pub refused : Bool
+  pub answer : ℕ
+  pub fault : Option Fault
+  pub bad : Bool
+  pub none : Bool
+  pub area : ℕ
+  pub same : Bool
+  pub newer : Bool
+  pub used : Bool
+  pub acknowledged : Bool
 
 unfoldable pub tests_of : Plan → Attempt → Bool → Seen → Tests
 tests_of p a ok h = record {

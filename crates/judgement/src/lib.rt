@@ -4,12 +4,14 @@
 // paper's orders (specs/Judgement.antt).
 #![tactic(auto)]
 
-ghost use Rattle.std.specs.Prelude.{◌≡◌};
-ghost use Rattle.judgement.specs.Judgement.{tests_of, first_order, match_order, later_order, ack_order, chunk_order, judge_by};
+ghost use Rattle.std.specs.Prelude.{◌≡◌, Bool};
+ghost use Rattle.plans.specs.declared.Plan.{Plan};
+ghost use Rattle.phases.specs.declared.Attempt.{Attempt};
+ghost use Rattle.judgement.specs.Judgement.{matches, tests_of, first_order, match_order, later_order, judge_by};
 
+use answers::Refusal;
 use completions::Seen;
 use endings::Ending;
-use header::Fault;
 use phases::{Attempt, Phase};
 use plans::Plan;
 
@@ -28,144 +30,90 @@ pub enum Move {
     Acknowledge,
 }
 
-// What a completion tells of an attempt, test by test: it is refused; what the plan from a first header answers; a header's fault, and that it has one; an
-// 08h header shows no data; what speaks against the area; the header matches the attempt's, in its generation and all four last blocks; its
-// generation is another; no attempt is left; the page is one to acknowledge.
-#[derive(Clone, Copy)]
-struct Tests {
-    refused: bool,
-    answer: u8,
-    fault: Fault,
-    bad: bool,
-    none: bool,
-    area: u8,
-    same: bool,
-    newer: bool,
-    used: bool,
-    acknowledged: bool,
-}
-
-fn tests_of(p: Plan, a: Attempt, ok: bool, h: Seen) -> Tests
-    ensures { result ≡ tests_of p a ok h }
+// The header seen matches the attempt's, in its generation and all four last blocks: the pair stands in three structs, whose fields the laws name one by one.
+fn same(a: Attempt, h: Seen) -> bool
+    ensures { result ≡ matches a h }
 {
     let last = h.last;
-    let fault = h.fault;
-    let acknowledged = p.page == pages::CONTROLLER;
     let held = a.last;
     let generation = h.generation == a.generation;
-    Tests {
-        refused: !ok,
-        answer: h.answer,
-        fault,
-        bad: !header::faultless(fault),
-        none: acknowledged & (h.tcda == 0),
-        area: plans::area_answer(p, last),
-        same: generation & lastblocks::same_last(last, held),
-        newer: !generation,
-        used: p.attempts <= a.number,
-        acknowledged,
-    }
+    generation & lastblocks::same_last(last, held)
 }
 
 // 12, and then as its plan answers: 7, 11, 19, 8, or else the header opens the attempt.
-fn first_of(t: Tests) -> Move
-    ensures { result ≡ first_order t }
+#[tactic(auto, unfolding(crate::specs::Judgement::first_order, crate::specs::Judgement::tests_of))]
+fn first_of(ok: bool, h: Seen) -> Move
+    ensures { (p : Plan) (a : Attempt) → result ≡ first_order (tests_of p a ok h) }
 {
-    let fault = t.fault;
-    let bad = t.answer == answers::BAD_HEADER;
-    let none = t.answer == answers::NOTHING;
-    let far = t.answer == answers::OUT_OF_REACH;
-    let large = t.answer == answers::NO_ROOM;
-    if t.refused {
+    let fault = h.fault;
+    if !ok {
         return Move::End(Ending::BrokeItsWord, false);
     }
-    if bad {
-        return Move::End(Ending::BadHeader(fault), false);
+    match h.answer {
+        answers::BAD_HEADER => Move::End(Ending::BadHeader(fault), false),
+        answers::NOTHING => Move::End(Ending::Nothing, false),
+        answers::OUT_OF_REACH => Move::End(Ending::OutOfReach, false),
+        answers::NO_ROOM => Move::End(Ending::NoRoom, false),
+        _ => Move::Open(false),
     }
-    if none {
-        return Move::End(Ending::Nothing, false);
-    }
-    if far {
-        return Move::End(Ending::OutOfReach, false);
-    }
-    if large {
-        return Move::End(Ending::NoRoom, false);
-    }
-    Move::Open(false)
 }
 
 // The copy stands, after a refused chunk it cannot; or else the order on a mismatch: 9, 19, 8, or the header opens the next attempt.
-fn match_of(t: Tests, after: bool) -> Move
-    ensures { result ≡ match_order t after }
+#[tactic(auto, unfolding(crate::specs::Judgement::match_order, crate::specs::Judgement::tests_of))]
+fn match_of(p: Plan, a: Attempt, h: Seen, after: bool) -> Move
+    ensures { (ok : Bool) → result ≡ match_order (tests_of p a ok h) after }
 {
-    let far = t.area == answers::OUT_OF_REACH;
-    let large = t.area == answers::NO_ROOM;
-    if t.same & after {
+    let last = h.last;
+    let same = same(a, h);
+    let acknowledged = p.page == pages::CONTROLLER;
+    if same & after {
         return Move::End(Ending::BrokeItsWord, false);
     }
-    if t.same & t.acknowledged {
+    if same & acknowledged {
         return Move::Acknowledge;
     }
-    if t.same {
+    if same {
         return Move::End(Ending::Success(false), false);
     }
-    if t.used {
+    if p.attempts <= a.number {
         return Move::End(Ending::UsedUp, false);
     }
-    if far {
-        return Move::End(Ending::OutOfReach, true);
+    match p.area_answer(last) {
+        Err(Refusal::OutOfReach) => Move::End(Ending::OutOfReach, true),
+        Err(Refusal::NoRoom) => Move::End(Ending::NoRoom, true),
+        _ => Move::Open(true),
     }
-    if large {
-        return Move::End(Ending::NoRoom, true);
-    }
-    Move::Open(true)
 }
 
 // 12, 7, 10, and then by the match.
-fn later_of(t: Tests, after: bool) -> Move
-    ensures { result ≡ later_order t after }
+#[tactic(auto, unfolding(crate::specs::Judgement::later_order, crate::specs::Judgement::tests_of))]
+fn later_of(p: Plan, a: Attempt, ok: bool, h: Seen, after: bool) -> Move
+    ensures { result ≡ later_order (tests_of p a ok h) after }
 {
-    let fault = t.fault;
-    if t.refused {
+    let fault = h.fault;
+    if !ok {
         return Move::End(Ending::BrokeItsWord, false);
     }
-    if t.bad {
+    if !header::faultless(fault) {
         return Move::End(Ending::BadHeader(fault), false);
     }
-    if t.none {
+    if (p.page == pages::CONTROLLER) & (h.tcda == 0) {
         return Move::End(Ending::Withdrawn, false);
     }
-    match_of(t, after)
+    match_of(p, a, h, after)
 }
 
-fn ack_of(t: Tests) -> Move
-    ensures { result ≡ ack_order t }
-{
-    if t.refused {
-        return Move::End(Ending::BrokeItsWord, false);
-    }
-    Move::End(Ending::Success(t.newer), false)
-}
-
-fn chunk_of(t: Tests, at: u32) -> Move
-    ensures { result ≡ chunk_order t at }
-{
-    if t.refused {
-        return Move::Skip;
-    }
-    Move::More(at)
-}
-
-// What a completion calls for in a phase of an attempt: `ok` says that it is a success, and `h` is what was seen of its data.
+// What a completion calls for in a phase of an attempt: `ok` says that it is a success, and `h` is what was seen of its data. It takes a state's parts, as
+// `refusals::refusal` does.
+#[tactic(auto, unfolding(crate::specs::Judgement::judge_by, crate::specs::Judgement::tests_of))]
 pub fn judge(phase: Phase, p: Plan, a: Attempt, ok: bool, h: Seen) -> Move
     ensures { result ≡ judge_by phase (tests_of p a ok h) }
 {
-    let t = tests_of(p, a, ok, h);
     match phase {
-        Phase::First => first_of(t),
-        Phase::Chunk(at) => chunk_of(t, at),
-        Phase::Close(after) => later_of(t, after),
-        Phase::Ack => ack_of(t),
-        Phase::Ended => Move::End(Ending::BrokeItsWord, false),
+        Phase::First => first_of(ok, h),
+        Phase::Chunk(at) => if ok { Move::More(at) } else { Move::Skip },
+        Phase::Close(after) => later_of(p, a, ok, h, after),
+        Phase::Ack if ok => Move::End(Ending::Success(h.generation != a.generation), false),
+        Phase::Ack | Phase::Ended => Move::End(Ending::BrokeItsWord, false),
     }
 }

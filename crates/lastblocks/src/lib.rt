@@ -26,7 +26,7 @@ pub fn area4_ok(da4s: bool, a: [u32; 4]) -> bool
 {
     let a3 = a[2];
     let a4 = a[3];
-    choices::pick_bool(
+    choices::pick(
         da4s,
         (a3 <= a4) & (a4 <= pages::MOST_4) & ((a4 == 0) | (0 < a3)),
         a4 == 0,
@@ -34,25 +34,24 @@ pub fn area4_ok(da4s: bool, a: [u32; 4]) -> bool
 }
 
 // The four last blocks keep the rule for the DA4S given.
+#[tactic(auto, unfolding(crate::specs::LastBlocks::last_ok, choices::specs::Tests::holds))]
 pub fn last_ok(da4s: bool, a: [u32; 4]) -> bool
     ensures { result ≡ last_ok da4s a }
 {
     area2_ok(a) & area3_ok(a) & area4_ok(da4s, a)
 }
 
-// Whether all four are the same.
+// Whether all four are the same. It stands beside `==`, since docs/PROMISES.md names it and two must-fail edits turn what it answers.
 pub fn same_last(a: [u32; 4], b: [u32; 4]) -> bool
     ensures { result ≡ same_last a b }
 {
-    (a[0] == b[0]) & (a[1] == b[1]) & (a[2] == b[2]) & (a[3] == b[3])
+    a == b
 }
 
-// The greatest of the four.
+// The greatest of the four, written out, since two must-fail edits each change one place of it.
+#[tactic(auto, unfolding(crate::specs::LastBlocks::greatest_of))]
 pub fn greatest(a: [u32; 4]) -> u32
     ensures { result ≡ greatest_of a }
 {
-    choices::larger_u32(
-        a[0],
-        choices::larger_u32(a[1], choices::larger_u32(a[2], a[3])),
-    )
+    a[0].max(a[1].max(a[2].max(a[3])))
 }

@@ -4,59 +4,91 @@
 // nothing is lost on either way (specs/Back.antt).
 #![tactic(auto)]
 
-ghost use Rattle.std.specs.Prelude.{◌≡◌, ◌+◌, ◌≤◌, [], ◌∷◌, length};
+ghost use Rattle.std.specs.Prelude.{ℕ, ◌≡◌, refl, ◌+◌, ◌<◌, ◌≤◌, length};
+ghost use Rattle.std.proofs.Common.{rules};
 ghost use Rattle.copies.specs.Parts.{put_at};
-ghost use Rattle.littleendian.specs.Numbers.{bytes_of, value_of, value_at};
+ghost use Rattle.littleendian.specs.Numbers.{bytes_of, value_at};
 
-// ---- writing
+// A number that takes so many bytes, the lowest first.
+pub trait LittleEndian: Copy {
+    // how many bytes
+    ghost WIDTH: { ℕ };
 
-// A number of four bytes goes into `out` from `at` on. Where it does not fit there, `out` stays as it is.
-pub fn put4(out: &mut [u8], at: usize, x: u32)
-    ensures { out.new ≡ put_at out.old at (bytes_of 4 x) }
-{
-    let x1 = x / 256;
-    let x2 = x1 / 256;
-    let x3 = x2 / 256;
-    let four = [
-        (x % 256) as u8,
-        (x1 % 256) as u8,
-        (x2 % 256) as u8,
-        (x3 % 256) as u8,
-    ];
-    copies::put(&four, out, at);
+    // what number a value is, and the value of a number
+    ghost number: { Self → ℕ };
+
+    ghost of: { ℕ → Self };
+
+    const WIDTH: usize;
+
+    // The number goes into `out` from `at` on. Where it does not fit there, `out` stays as it is.
+    fn put_le(self, out: &mut [u8], at: usize)
+        ensures { out.new ≡ put_at out.old at (bytes_of WIDTH (number self)) };
+
+    // The number in the bytes from `i` on.
+    fn value_at(b: &[u8], i: usize) -> Self
+        requires { i + WIDTH ≤ length b.now }
+        ensures { result ≡ of (value_at WIDTH i b.now) };
+
+    // no number takes no bytes, and a value is that of its number
+    ghost some: { 0 < WIDTH };
+
+    ghost had_back: { (x : Self) → of (number x) ≡ x };
 }
 
-// A number of eight bytes, in the same way.
-pub fn put8(out: &mut [u8], at: usize, y: u64)
-    ensures { out.new ≡ put_at out.old at (bytes_of 8 y) }
-{
-    let mut halves = [0u8; 8];
-    put4(&mut halves, 0, (y % 4294967296) as u32);
-    put4(&mut halves, 4, (y / 4294967296) as u32);
-    copies::put(&halves, out, at);
+// The two impls differ in a size alone, but no array's length may be computed from WIDTH.
+impl LittleEndian for u32 {
+    ghost WIDTH = { 4 };
+
+    ghost number = { λ x. x };
+
+    ghost of = { λ n. n };
+
+    const WIDTH: usize = 4;
+
+    fn put_le(self, out: &mut [u8], at: usize) {
+        let four = self.to_le_bytes();
+        copies::put(&four, out, at);
+    }
+
+    fn value_at(b: &[u8], i: usize) -> u32 {
+        u32::from_le_bytes([b[i], b[i + 1], b[i + 2], b[i + 3]])
+    }
+
+    ghost some = { Prim.search rules };
+
+    ghost had_back = { λ x. refl };
 }
 
-// ---- reading
+impl LittleEndian for u64 {
+    ghost WIDTH = { 8 };
 
-// The number of four bytes, the lowest first.
-fn of4(a: u8, b: u8, c: u8, d: u8) -> u32
-    ensures { result ≡ value_of (a ∷ b ∷ c ∷ d ∷ []) }
-{
-    (a as u32) + 256 * ((b as u32) + 256 * ((c as u32) + 256 * (d as u32)))
-}
+    ghost number = { λ y. y };
 
-// The number in the four bytes from `i` on.
-pub fn value4_at(b: &[u8], i: usize) -> u32
-    requires { i + 4 ≤ length b.now }
-    ensures { result ≡ value_at 4 i b.now }
-{
-    of4(b[i], b[i + 1], b[i + 2], b[i + 3])
-}
+    ghost of = { λ n. n };
 
-// The number in the eight bytes from `i` on.
-pub fn value8_at(b: &[u8], i: usize) -> u64
-    requires { i + 8 ≤ length b.now }
-    ensures { result ≡ value_at 8 i b.now }
-{
-    (value4_at(b, i) as u64) + 4294967296 * (value4_at(b, i + 4) as u64)
+    const WIDTH: usize = 8;
+
+    fn put_le(self, out: &mut [u8], at: usize) {
+        let eight = self.to_le_bytes();
+        copies::put(&eight, out, at);
+    }
+
+    fn value_at(b: &[u8], i: usize) -> u64 {
+        let eight = [
+            b[i],
+            b[i + 1],
+            b[i + 2],
+            b[i + 3],
+            b[i + 4],
+            b[i + 5],
+            b[i + 6],
+            b[i + 7],
+        ];
+        u64::from_le_bytes(eight)
+    }
+
+    ghost some = { Prim.search rules };
+
+    ghost had_back = { λ y. refl };
 }

@@ -5,21 +5,24 @@
 #![tactic(auto)]
 
 ghost use Rattle.std.specs.Prelude.{◌≡◌};
+ghost use Rattle.collection.specs.Told.{next_told};
+ghost use Rattle.collection.specs.Told.Next.{Refuse};
 ghost use Rattle.next_layout.specs.Layout.{kind_of, next_parts, next_bytes};
 
 use collection::Next;
+use littleendian::LittleEndian;
 use words::Words;
 
-// What follows is a command to send, an ending, a refusal.
+// What follows is a command to send, an ending, a refusal. These are numbers because the C interface needs them; the enum of the three is `Next`.
 pub const SEND: u8 = 0;
 
 pub const ENDED: u8 = 1;
 
 pub const REFUSED: u8 = 2;
 
-// Which of the three it is.
+// The number of what follows.
 pub fn kind_of(next: Next) -> u8
-    ensures { result ≡ kind_of next }
+    ensures { result ≡ kind_of (next_told next) }
 {
     match next {
         Next::Send(_) => SEND,
@@ -28,6 +31,7 @@ pub fn kind_of(next: Next) -> u8
     }
 }
 
+#[tactic(auto, using(crate::specs::Steps::next_is))]
 fn next_parts(kind: u8, answer: u8, newer: u8, field: u8, w: Words, count: u64) -> [u8; 32]
     ensures { result ≡ next_parts kind answer newer field w count }
 {
@@ -37,15 +41,24 @@ fn next_parts(kind: u8, answer: u8, newer: u8, field: u8, w: Words, count: u64) 
     out[2] = newer;
     out[3] = field;
     let words = [w.cdw10, w.cdw11, w.cdw12, w.cdw13];
-    arrays::put_fours(&mut out, 4, words);
-    littleendian::put4(&mut out, 20, w.cdw14);
-    littleendian::put8(&mut out, 24, count);
+    arrays::put_all(&mut out, 4, &words);
+    w.cdw14.put_le(&mut out, 20);
+    count.put_le(&mut out, 24);
     out
 }
 
+// The 32 bytes of a refusal with this number: of any number, which is more than the refusals that follow a setup or a step have.
+#[tactic(auto, unfolding(crate::specs::Layout::next_bytes))]
+pub fn write_refused(answer: u8) -> [u8; 32]
+    ensures { result ≡ next_bytes (Refuse answer) }
+{
+    next_parts(REFUSED, answer, 0, 0, words::no_words(), 0)
+}
+
 // Its 32 bytes.
+#[tactic(auto, unfolding(crate::specs::Layout::next_bytes))]
 pub fn write_next(next: Next) -> [u8; 32]
-    ensures { result ≡ next_bytes next }
+    ensures { result ≡ next_bytes (next_told next) }
 {
     match next {
         Next::Send(w) => next_parts(SEND, 0, 0, 0, w, 0),
@@ -53,13 +66,13 @@ pub fn write_next(next: Next) -> [u8; 32]
             let ending = e.ending;
             next_parts(
                 ENDED,
-                endings::number(ending),
-                shared_layouts::bit(endings::newer(ending), 1),
-                shared_layouts::fault_number(endings::fault(ending)),
+                ending.number(),
+                shared_layouts::bit(ending.newer(), 1),
+                shared_layouts::fault_number(ending.fault()),
                 words::no_words(),
                 e.count,
             )
         }
-        Next::Refuse(answer) => next_parts(REFUSED, answer, 0, 0, words::no_words(), 0),
+        Next::Refuse(refusal) => write_refused(refusal.number()),
     }
 }

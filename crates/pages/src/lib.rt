@@ -6,6 +6,8 @@
 ghost use Rattle.std.specs.Prelude.{◌≡◌, ◌*◌};
 ghost use Rattle.pages.specs.Pages.{block, last_of, blocks_of, size_of};
 
+// A page is a number: a command's words ask for any of 256, and each has its answer (`verdicts::on_command`).
+
 // Telemetry host-initiated.
 pub const HOST: u8 = 0x07;
 // Telemetry controller-initiated.
@@ -28,15 +30,16 @@ pub struct Caps {
     pub mcdas: bool,
 }
 
-// The last block of an area: area 4's for any number but 1, 2 and 3.
+// The last block of an area, which is a number, since `last_of` answers for every one: area 4's for any number but 1, 2 and 3.
 pub fn last_of(area: u32, a: [u32; 4]) -> u32
     ensures { result ≡ last_of area a }
 {
-    choices::pick_u32(
-        area == 1,
-        a[0],
-        choices::pick_u32(area == 2, a[1], choices::pick_u32(area == 3, a[2], a[3])),
-    )
+    match area {
+        1 => a[0],
+        2 => a[1],
+        3 => a[2],
+        _ => a[3],
+    }
 }
 
 // The bytes of this many blocks.
@@ -47,13 +50,15 @@ pub fn in_bytes(blocks: u32) -> usize
 }
 
 // The blocks that the page has after its header.
+#[tactic(auto, unfolding(crate::specs::Pages::blocks_of))]
 pub fn blocks(caps: Caps, a: [u32; 4]) -> u32
     ensures { result ≡ blocks_of caps a }
 {
-    choices::pick_u32(caps.da4s & caps.etdas, a[3], a[2])
+    choices::pick(caps.da4s & caps.etdas, a[3], a[2])
 }
 
 // The page's size in bytes, its header included.
+#[tactic(auto, unfolding(crate::specs::Pages::size_of))]
 pub fn size(caps: Caps, a: [u32; 4]) -> usize
     ensures { result ≡ size_of caps a }
 {

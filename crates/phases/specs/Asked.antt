@@ -5,11 +5,11 @@ use Rattle.std.specs.Prelude.{ℕ, ◌+◌, ◌-◌, ◌*◌, List, Bool, true, 
 use Rattle.choices.specs.Choice.{pick, smaller}
 use Rattle.pages.specs.Pages.{block}
 use Rattle.words.specs.Words.{built_of}
-use Rattle.words.specs.declared.Built.{Built}
+use Rattle.words.specs.Words.{Built}
 use Rattle.words.specs.declared.Words.{Words}
 use Rattle.plans.specs.declared.Plan.{Plan}
 use Rattle.plans.specs.Plans.{area_last, fits, chunk_of, lead_of}
-use Rattle.phases.specs.declared.Ask.{Ask}
+use Rattle.words.specs.declared.Ask.{Ask}
 use Rattle.phases.specs.declared.Due.{Due}
 use Rattle.phases.specs.declared.Phase.{Phase}
 use Rattle.phases.specs.declared.Phase.TheVariants.{First, Chunk, Close, Ack, Ended}

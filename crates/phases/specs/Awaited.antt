@@ -10,7 +10,7 @@ use Rattle.pages.specs.Pages.{block, most4}
 use Rattle.words.specs.declared.Command.{Command}
 use Rattle.words.specs.Words.{most_blocks, taken, read_of}
 use Rattle.words.specs.Back.{meant, built_back}
-use Rattle.phases.specs.declared.Ask.{Ask}
+use Rattle.words.specs.declared.Ask.{Ask}
 use Rattle.plans.specs.declared.Plan.{Plan}
 use Rattle.phases.specs.declared.Phase.{Phase}
 use Rattle.phases.specs.declared.Phase.TheVariants.{First, Chunk, Close, Ack, Ended}

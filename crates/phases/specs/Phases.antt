@@ -4,7 +4,7 @@
 use Rattle.std.specs.Prelude.{ℕ, ◌≡◌, refl, Bool, true, false, ◌||◌}
 use Rattle.std.proofs.Common.{sym, ap}
 use Rattle.choices.specs.Tests.{clash}
-use Rattle.phases.specs.declared.Ask.{Ask}
+use Rattle.words.specs.declared.Ask.{Ask}
 use Rattle.phases.specs.declared.Phase.{Phase}
 use Rattle.phases.specs.declared.Phase.TheVariants.{First, Chunk, Close, Ack, Ended}
 

@@ -6,11 +6,11 @@
 
 ghost use Rattle.std.specs.Prelude.{◌≡◌, ◌+◌};
 ghost use Rattle.phases.specs.declared.Phase.TheVariants.{Chunk};
-ghost use Rattle.phases.specs.Phases.{asked, ended_by};
+ghost use Rattle.phases.specs.Phases.{ended_by};
 ghost use Rattle.phases.specs.Asked.{chunk_blocks, mcda_of, asks_for, inside_by, words_by, due_by, phase_at};
 
 use plans::Plan;
-use words::Words;
+use words::{Ask, Words};
 
 // What is awaited: the first header, the chunk that starts at a block of the page, the closing header, after a refused chunk or not, the
 // acknowledgement; or nothing.
@@ -31,16 +31,6 @@ pub struct Attempt {
     pub last: [u32; 4],
 }
 
-// What a phase asks the controller for: the builder's arguments after the page.
-#[derive(Clone, Copy)]
-pub struct Ask {
-    pub create: bool,
-    pub mcda: u8,
-    pub rae: bool,
-    pub offset: u32,
-    pub blocks: u32,
-}
-
 // What is awaited: the bytes that a success brings, and whether the area of the attempt's header can be collected and an awaited chunk starts in
 // it.
 #[derive(Clone, Copy)]
@@ -49,117 +39,123 @@ pub struct Due {
     pub within: bool,
 }
 
+// What is asked for where the header alone is read.
+const HEADER: Ask = Ask {
+    create: false,
+    mcda: 0,
+    rae: true,
+    offset: 0,
+    blocks: 1,
+};
+
 // The blocks of the chunk at a block; none past B.
+#[tactic(auto, using(crate::specs::Chunks::chunk_short, crate::specs::Chunks::chunk_full, crate::specs::Chunks::chunk_none))]
 fn chunk_blocks(c: u32, at: u32, b: u32) -> u32
     ensures { result ≡ chunk_blocks c at b }
 {
-    if at <= b {
-        let left = b - at;
-        if left < c {
-            return left + 1;
-        }
-        return c;
+    if b < at {
+        return 0;
     }
-    0
+    let left = b - at;
+    if left < c { left + 1 } else { c }
 }
 
 fn mcda(p: Plan) -> u8
     ensures { result ≡ mcda_of p }
 {
-    choices::pick_u8(p.create & p.caps.mcdas, p.area, 0)
-}
-
-// RAE 0 is the acknowledgement's alone, and create the first command's.
-fn asking(create: bool, mcda: u8, rae: bool, offset: u32, blocks: u32) -> Ask
-    ensures { result ≡ asked create mcda rae offset blocks }
-{
-    Ask {
-        create,
-        mcda,
-        rae,
-        offset,
-        blocks,
-    }
+    choices::pick(p.create & p.caps.mcdas, p.area, 0)
 }
 
 // The chunk at a block; without extended data with the header in front of it.
+#[tactic(auto, using(crate::specs::Chunks::led_most))]
 fn asking_chunk(p: Plan, last: [u32; 4], at: u32) -> Ask
     ensures { result ≡ asks_for (Chunk at) p last }
 {
-    let own = chunk_blocks(plans::chunk_of(p), at, plans::area_last(p, last));
+    let own = chunk_blocks(p.chunk_len(), at, p.area_last(last));
     if p.caps.extended {
-        return asking(false, 0, true, at, own);
+        return Ask {
+            offset: at,
+            blocks: own,
+            ..HEADER
+        };
     }
-    asking(false, 0, true, 0, 1 + own)
-}
-
-fn asks_for(phase: Phase, p: Plan, last: [u32; 4]) -> Ask
-    ensures { result ≡ asks_for phase p last }
-{
-    match phase {
-        Phase::First => asking(p.create, mcda(p), true, 0, 1),
-        Phase::Chunk(at) => asking_chunk(p, last, at),
-        Phase::Close(_) => asking(false, 0, true, 0, 1),
-        Phase::Ack => asking(false, 0, false, 0, 1),
-        Phase::Ended => asking(false, 0, true, 0, 0),
+    Ask {
+        blocks: 1 + own,
+        ..HEADER
     }
 }
 
-fn inside(phase: Phase, p: Plan, last: [u32; 4]) -> bool
-    ensures { result ≡ inside_by phase p last }
-{
-    let b = plans::area_last(p, last);
-    match phase {
-        Phase::First => true,
-        Phase::Chunk(at) => (1 <= at) & (at <= b) & (p.caps.extended | (at == 1)),
-        Phase::Close(_) => true,
-        Phase::Ack => true,
-        Phase::Ended => true,
-    }
-}
-
-// Nothing is awaited any more.
-pub fn ended(phase: Phase) -> bool
-    ensures { result ≡ ended_by phase }
-{
-    match phase {
-        Phase::First => false,
-        Phase::Chunk(_) => false,
-        Phase::Close(_) => false,
-        Phase::Ack => false,
-        Phase::Ended => true,
-    }
-}
-
-// The command that is awaited in a phase, in an attempt whose header has these last blocks: five zero words after the ending.
-pub fn awaited(phase: Phase, p: Plan, last: [u32; 4]) -> Words
-    ensures { result ≡ words_by phase p last }
-{
-    let a = asks_for(phase, p, last);
-    let built = words::build(p.page, a.create, a.mcda, a.rae, a.offset, a.blocks);
-    built.words
-}
-
-// What its completion is judged by before anything else.
-pub fn expected(phase: Phase, p: Plan, last: [u32; 4]) -> Due
-    ensures { result ≡ due_by phase p last }
-{
-    let a = asks_for(phase, p, last);
-    let fits = plans::area_answer(p, last) == answers::SUCCESS;
-    Due {
-        bytes: pages::in_bytes(a.blocks),
-        within: fits & inside(phase, p, last),
-    }
-}
-
-// The chunk that is c blocks after a block, or the closing header where the area ends before it.
-pub fn phase_after(at: u32, c: u32, b: u32) -> Phase
-    ensures { result ≡ phase_at (at + c) b }
-{
-    if at <= b {
-        if c <= b - at {
-            return Phase::Chunk(at + c);
+impl Phase {
+    // What it asks the controller for: RAE 0 is the acknowledgement's alone, and create the first command's.
+    fn asks(self, p: Plan, last: [u32; 4]) -> Ask
+        ensures { result ≡ asks_for self p last }
+    {
+        match self {
+            Phase::First => Ask {
+                create: p.create,
+                mcda: mcda(p),
+                ..HEADER
+            },
+            Phase::Chunk(at) => asking_chunk(p, last, at),
+            Phase::Close(_) => HEADER,
+            Phase::Ack => Ask {
+                rae: false,
+                ..HEADER
+            },
+            Phase::Ended => Ask {
+                blocks: 0,
+                ..HEADER
+            },
         }
     }
-    Phase::Close(false)
+
+    // An awaited chunk starts within the area, and without extended data right after the header.
+    fn is_inside(self, p: Plan, last: [u32; 4]) -> bool
+        ensures { result ≡ inside_by self p last }
+    {
+        let b = p.area_last(last);
+        match self {
+            Phase::Chunk(at) => (1 <= at) & (at <= b) & (p.caps.extended | (at == 1)),
+            Phase::First | Phase::Close(_) | Phase::Ack | Phase::Ended => true,
+        }
+    }
+
+    // Nothing is awaited any more.
+    pub fn is_ended(self) -> bool
+        ensures { result ≡ ended_by self }
+    {
+        matches!(self, Phase::Ended)
+    }
+
+    // The command that is awaited, in an attempt whose header has these last blocks: five zero words after the ending.
+    #[tactic(auto, unfolding(crate::specs::Asked::words_by))]
+    pub fn awaited(self, p: Plan, last: [u32; 4]) -> Words
+        ensures { result ≡ words_by self p last }
+    {
+        words::build(p.page, self.asks(p, last)).unwrap_or(words::no_words())
+    }
+
+    // What its completion is judged by before anything else.
+    #[tactic(auto, using(answers::specs::Refused::ok_is), unfolding(crate::specs::Asked::due_by, crate::specs::Asked::within_by))]
+    pub fn expected(self, p: Plan, last: [u32; 4]) -> Due
+        ensures { result ≡ due_by self p last }
+    {
+        let asked = self.asks(p, last);
+        let fits = p.area_answer(last).is_ok();
+        Due {
+            bytes: pages::in_bytes(asked.blocks),
+            within: fits & self.is_inside(p, last),
+        }
+    }
+
+    // The chunk that is c blocks after a block, or the closing header where the area ends before it.
+    #[tactic(auto, using(crate::specs::Chunks::phase_chunk, crate::specs::Chunks::phase_close))]
+    pub fn after(at: u32, c: u32, b: u32) -> Phase
+        ensures { result ≡ phase_at (at + c) b }
+    {
+        if (at <= b) && (c <= b - at) {
+            return Phase::Chunk(at + c);
+        }
+        Phase::Close(false)
+    }
 }

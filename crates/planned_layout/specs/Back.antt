@@ -1,6 +1,6 @@
 -- The puts that write what a plan gives come to its bytes, and what C reads of them is what was given.
 -- Assumes nothing.
-use Rattle.std.specs.Prelude.{ℕ, ◌+◌, ◌≤◌, ◌<◌, ◌≡◌, refl, List, ◌++◌, length, get_or, drop, eqb}
+use Rattle.std.specs.Prelude.{ℕ, ◌+◌, ◌≤◌, ◌<◌, ◌≡◌, refl, List, ◌++◌, length, get_or, drop, eqb, Option, Some, None}
 use Rattle.std.proofs.Common.{ap, ◌∙◌, arith, length-append, length-drop, take_at, get_or-append-add}
 use Rattle.choices.specs.Choice.{pick_cases}
 use Rattle.copies.specs.Parts.{zeros, put_at, put_end, put_next}
@@ -10,9 +10,9 @@ use Rattle.littleendian.specs.Back.{value_back}
 use Rattle.littleendian.specs.Puts.{then}
 use Rattle.pages.specs.Pages.{host_page}
 use Rattle.header.specs.declared.Fault.{Fault}
-use Rattle.header.specs.declared.Fault.TheVariants.{None, Length, Identifier, Area2, Area3, Area4, Scope, Available, Empty}
+use Rattle.header.specs.declared.Fault.TheVariants.{Length, Identifier, Area2, Area3, Area4, Scope, Available, Empty}
 use Rattle.header.specs.Header.{byte_of}
-use Rattle.completions.specs.declared.Planned.{Planned}
+use Rattle.completions.specs.Plan.{Planned}
 use Rattle.shared_layouts.specs.Layouts.{fault_number}
 use Rattle.planned_layout.specs.Layout.{planned_marks, planned_front, planned_bytes}
 
@@ -42,16 +42,16 @@ planned_is page x l k e0 e1 e2 e3 e4 =
     (e3 ∙ ap (λ (y : List ℕ). put_at y 28 x.fields.reason) (front_is page x (e0 ∙ ap (put_at (zeros 160) 0) k) e1 e2)) e4
 
 -- every byte fits two bytes
-byte_small : (page : ℕ) (x : Fault) → byte_of page x ≤ 382
+byte_small : (page : ℕ) (x : Option Fault) → byte_of page x ≤ 382
 byte_small page None = omega arith
-byte_small page Length = omega arith
-byte_small page Identifier = omega arith
-byte_small page Area2 = omega arith
-byte_small page Area3 = omega arith
-byte_small page Area4 = omega arith
-byte_small page Scope = pick_cases (λ (n : ℕ). n ≤ 382) (eqb page host_page) (λ e. omega arith) (λ e. omega arith)
-byte_small page Available = omega arith
-byte_small page Empty = omega arith
+byte_small page (Some Length) = omega arith
+byte_small page (Some Identifier) = omega arith
+byte_small page (Some Area2) = omega arith
+byte_small page (Some Area3) = omega arith
+byte_small page (Some Area4) = omega arith
+byte_small page (Some Scope) = pick_cases (λ (n : ℕ). n ≤ 382) (eqb page host_page) (λ e. omega arith) (λ e. omega arith)
+byte_small page (Some Available) = omega arith
+byte_small page (Some Empty) = omega arith
 
 -- `bad_field` and `bad_byte` of what a plan gives
 pub told_field : (page : ℕ) (x : Planned) → get_or (planned_bytes page x) 5 0 ≡ fault_number x.fault

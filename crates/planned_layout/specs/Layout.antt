@@ -4,7 +4,7 @@ use Rattle.std.specs.Prelude.{ℕ, List, ◌∷◌, ◌++◌}
 use Rattle.littleendian.specs.Numbers.{bytes_of}
 use Rattle.arrays.specs.Arrays.{fours_of}
 use Rattle.header.specs.Header.{byte_of}
-use Rattle.completions.specs.declared.Planned.{Planned}
+use Rattle.completions.specs.Plan.{Planned}
 use Rattle.shared_layouts.specs.Layouts.{fault_number}
 
 -- of a plan for this page, the first eight bytes

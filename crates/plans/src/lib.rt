@@ -6,8 +6,10 @@
 
 ghost use Rattle.std.specs.Prelude.{◌≡◌};
 ghost use Rattle.choices.specs.Tests.{holds};
+ghost use Rattle.answers.specs.Answers.{result_number};
 ghost use Rattle.plans.specs.Plans.{chunk_taken, plan_tests, setup_answer, area_last, area_bytes, fits_room, in_reach, area_answer, chunk_of, lead_of};
 
+use answers::Refusal;
 use pages::Caps;
 
 // The most attempts of a collection.
@@ -18,6 +20,7 @@ pub const MOST_ROOM: usize = 536870912;
 pub const REACH: u32 = 31;
 
 // What setup is asked for: `area` is the wanted area, `chunk` the blocks of a command, none without extended data, `room` the bytes of the copy.
+// `page` and `area` are numbers and no enums, since `setup_answer` promises 13 for every other number.
 #[derive(Clone, Copy)]
 pub struct Plan {
     pub page: u8,
@@ -40,73 +43,91 @@ fn chunk_taken(extended: bool, c: u32) -> bool
     }
 }
 
-fn plan_ok(p: Plan) -> bool
-    ensures { result ≡ holds (plan_tests p) }
-{
-    ((p.page == pages::HOST) | (p.page == pages::CONTROLLER))
-        & ((1 <= p.area) & (p.area <= 4))
-        & chunk_taken(p.caps.extended, p.chunk)
-        & ((1 <= p.attempts) & (p.attempts <= MOST_ATTEMPTS))
-        & ((p.room <= MOST_ROOM) & (p.room % pages::BLOCK == 0))
-        & p.caps.telemetry
-        & !(p.create & (p.page == pages::CONTROLLER))
-}
+impl Plan {
+    // Each of its numbers is one that setup takes.
+    #[tactic(auto, unfolding(choices::specs::Tests::holds))]
+    fn is_valid(self) -> bool
+        ensures { result ≡ holds (plan_tests self) }
+    {
+        ((self.page == pages::HOST) | (self.page == pages::CONTROLLER))
+            & ((1 <= self.area) & (self.area <= 4))
+            & chunk_taken(self.caps.extended, self.chunk)
+            & ((1 <= self.attempts) & (self.attempts <= MOST_ATTEMPTS))
+            & ((self.room <= MOST_ROOM) & (self.room % pages::BLOCK == 0))
+            & self.caps.telemetry
+            & !(self.create & (self.page == pages::CONTROLLER))
+    }
 
-// Setup's answer to a plan: 13, then 6, or 0.
-pub fn setup_answer(p: Plan) -> u8
-    ensures { result ≡ setup_answer p }
-{
-    let four = (p.area == 4) & !(p.caps.da4s & p.caps.etdas);
-    let lacks = choices::pick_u8(four, answers::NO_AREA_4, answers::SUCCESS);
-    choices::pick_u8(!plan_ok(p), answers::BAD_SETUP, lacks)
-}
+    // Setup's answer: a bad plan is refused first, then area 4 where it can't be had.
+    #[tactic(auto, unfolding(crate::specs::Plans::setup_answer))]
+    pub fn setup_answer(self) -> Result<(), Refusal>
+        ensures { result_number result ≡ setup_answer self }
+    {
+        if !self.is_valid() {
+            return Err(Refusal::BadSetup);
+        }
+        if (self.area == 4) & !(self.caps.da4s & self.caps.etdas) {
+            return Err(Refusal::NoArea4);
+        }
+        Ok(())
+    }
 
-// B, the wanted area's last block.
-pub fn area_last(p: Plan, last: [u32; 4]) -> u32
-    ensures { result ≡ area_last p last }
-{
-    pages::last_of(p.area as u32, last)
-}
+    // B, the wanted area's last block. Last blocks stay a parameter here and below: they are those of a header that may not open an attempt, and document 01
+    // has them by value.
+    pub fn area_last(self, last: [u32; 4]) -> u32
+        ensures { result ≡ area_last self last }
+    {
+        pages::last_of(self.area as u32, last)
+    }
 
-// The bytes of the wanted area of a header with these last blocks.
-pub fn area_bytes(p: Plan, last: [u32; 4]) -> usize
-    ensures { result ≡ area_bytes p last }
-{
-    pages::in_bytes(area_last(p, last))
-}
+    // The bytes of the wanted area of a header with these last blocks.
+    pub fn area_bytes(self, last: [u32; 4]) -> usize
+        ensures { result ≡ area_bytes self last }
+    {
+        pages::in_bytes(self.area_last(last))
+    }
 
-// The wanted area of a header with these last blocks fits the copy.
-fn fits_room(p: Plan, last: [u32; 4]) -> bool
-    ensures { result ≡ fits_room p last }
-{
-    area_bytes(p, last) <= p.room
-}
+    // The wanted area of a header with these last blocks fits the copy.
+    #[tactic(auto, unfolding(crate::specs::Plans::fits_room))]
+    fn fits_room(self, last: [u32; 4]) -> bool
+        ensures { result ≡ fits_room self last }
+    {
+        self.area_bytes(last) <= self.room
+    }
 
-// The wanted area of a header with these last blocks is in reach: always with extended data.
-fn in_reach(p: Plan, last: [u32; 4]) -> bool
-    ensures { result ≡ in_reach p last }
-{
-    p.caps.extended | (area_last(p, last) <= REACH)
-}
+    // The wanted area of a header with these last blocks is in reach: always with extended data.
+    #[tactic(auto, unfolding(crate::specs::Plans::in_reach))]
+    fn in_reach(self, last: [u32; 4]) -> bool
+        ensures { result ≡ in_reach self last }
+    {
+        self.caps.extended | (self.area_last(last) <= REACH)
+    }
 
-// What speaks against collecting the wanted area of a header with these last blocks: 19, 8, or 0.
-pub fn area_answer(p: Plan, last: [u32; 4]) -> u8
-    ensures { result ≡ area_answer p last }
-{
-    let room = choices::pick_u8(!fits_room(p, last), answers::NO_ROOM, answers::SUCCESS);
-    choices::pick_u8(!in_reach(p, last), answers::OUT_OF_REACH, room)
-}
+    // What speaks against collecting the wanted area of a header with these last blocks: first that it is out of reach, then that the copy has no room.
+    #[tactic(auto, unfolding(crate::specs::Plans::area_answer))]
+    pub fn area_answer(self, last: [u32; 4]) -> Result<(), Refusal>
+        ensures { result_number result ≡ area_answer self last }
+    {
+        if !self.in_reach(last) {
+            return Err(Refusal::OutOfReach);
+        }
+        if !self.fits_room(last) {
+            return Err(Refusal::NoRoom);
+        }
+        Ok(())
+    }
 
-// The blocks of a chunk: c, or without extended data all that are in reach.
-pub fn chunk_of(p: Plan) -> u32
-    ensures { result ≡ chunk_of p }
-{
-    choices::pick_u32(p.caps.extended, p.chunk, REACH)
-}
+    // The blocks of a chunk: c, or without extended data all that are in reach.
+    pub fn chunk_len(self) -> u32
+        ensures { result ≡ chunk_of self }
+    {
+        choices::pick(self.caps.extended, self.chunk, REACH)
+    }
 
-// The blocks that a chunk's command reads before it: without extended data the header.
-pub fn lead_of(p: Plan) -> u32
-    ensures { result ≡ lead_of p }
-{
-    choices::pick_u32(p.caps.extended, 0, 1)
+    // The blocks that a chunk's command reads before it: without extended data the header.
+    pub fn lead_len(self) -> u32
+        ensures { result ≡ lead_of self }
+    {
+        choices::pick(self.caps.extended, 0, 1)
+    }
 }

@@ -1,17 +1,17 @@
 -- Reading on: from the copy's start a reader hands out the copy's whole blocks in order, says then that it is at the end, and stays there.
 -- Assumes nothing.
-use Prim.Native.Nat.{ℕ, zero, suc, ◌+◌, ◌-◌, ◌*◌, ◌/◌, ◌≤◌, ◌<◌}
-use Rattle.std.specs.Prelude.{◌≡◌, true, false, drop}
+use Prim.Native.Nat.{ℕ, zero, suc, ◌+◌, ◌*◌, ◌/◌, ◌≤◌, ◌<◌}
+use Rattle.std.specs.Prelude.{◌≡◌, false, drop}
 use Rattle.std.proofs.Math.Path.{refl, sym, ap}
-use Rattle.std.proofs.Common.{◌∙◌, zero-add, le-leb, length-take, length-drop, take-append-drop, drop-drop}
+use Rattle.std.proofs.Common.{◌∙◌, zero-add, length-take, length-drop, take-append-drop, drop-drop}
 use mathlib.Core.List.{List, [], ◌∷◌, ◌++◌}
 use native.Mathlib.Omega.{arith}
-use Rattle.std.proofs.lemmas.Bool.{lt-leb}
 use Rattle.std.proofs.Math.ListN.{length, take}
 use Rattle.std.proofs.Math.Seq.{take-append-add}
 use Rattle.choices.specs.Choice.{pick}
 use Rattle.pages.specs.Pages.{block}
 use Rattle.reader.specs.Reader.{more_at, block_at, place_at}
+use Rattle.reader.specs.Laws.{more_yes, more_no, block_yes, place_yes, place_no}
 
 -- the blocks that n steps hand out from a place on: none at the end
 unfoldable pub blocks_from : List ℕ → ℕ → ℕ → List (List ℕ)
@@ -33,28 +33,6 @@ abbrev pub joined : List (List ℕ) → List ℕ
 joined [] = []
 joined (b ∷ bs) = b ++ joined bs
 
--- ---- one step
-
-more_yes : (n at : ℕ) → at + block ≤ n → more_at n at ≡ true
-unfolding more_at
-more_yes n at h = rw (le-leb at n (omega arith), le-leb block (n - at) (omega arith))
-
-more_no : (n at : ℕ) → at ≤ n → n < at + block → more_at n at ≡ false
-unfolding more_at
-more_no n at h l = rw (le-leb at n h, lt-leb block (n - at) (omega arith))
-
-place_yes : (n at : ℕ) → more_at n at ≡ true → (place_at n at).at ≡ at + block
-unfolding place_at
-place_yes n at e = rw e
-
-place_no : (n at : ℕ) → more_at n at ≡ false → (place_at n at).at ≡ at
-unfolding place_at
-place_no n at e = rw e
-
-block_yes : (copy : List ℕ) (at : ℕ) → more_at (length copy) at ≡ true → block_at copy at ≡ take block (drop at copy)
-unfolding block_at
-block_yes copy at e = rw e
-
 -- ---- at the end
 
 from_end : (copy : List ℕ) (at n : ℕ) → more_at (length copy) at ≡ false → blocks_from copy at n ≡ []
@@ -72,7 +50,7 @@ after_end len at (suc n) e = rw (place_no len at e) (after_end len at n e)
 module _ (copy : List ℕ) where
   from_on : (i k n : ℕ) → block * (i + k) ≤ length copy → length copy < block * (i + k) + block → k ≤ n → blocks_from copy (block * i) n ≡ blocks_of copy i k
   unfolding blocks_from blocks_of
-  from_on i zero n l m h = from_end copy (block * i) n (more_no (length copy) (block * i) (omega arith) (omega arith))
+  from_on i zero n l m h = from_end copy (block * i) n (more_no (length copy) (block * i) (omega arith))
   from_on i (suc k) zero l m h = absurd (omega arith)
   from_on i (suc k) (suc n) l m h =
       let y = more_yes (length copy) (block * i) (omega arith) in
@@ -83,7 +61,7 @@ module _ (copy : List ℕ) where
   after_on : (i k n : ℕ) → block * (i + k) ≤ length copy → length copy < block * (i + k) + block → k ≤ n → place_after (length copy) (block * i) n ≡ block * (i + k)
   unfolding place_after
   after_on i zero n l m h =
-      after_end (length copy) (block * i) n (more_no (length copy) (block * i) (omega arith) (omega arith))
+      after_end (length copy) (block * i) n (more_no (length copy) (block * i) (omega arith))
       ∙ ap (λ (j : ℕ). block * j) (let e : i ≡ i + 0 = omega arith in e)
   after_on i (suc k) zero l m h = absurd (omega arith)
   after_on i (suc k) (suc n) l m h =
@@ -129,7 +107,7 @@ module _ (copy : List ℕ) where
   -- There it says that it is at the end, hands out nothing and stays.
   pub stays_at_end : (place_at (length copy) (block * whole) ≡ record { more = false; at = block * whole }) × (block_at copy (block * whole) ≡ [])
   unfolding place_at block_at
-  stays_at_end = let e = more_no (length copy) (block * whole) (omega arith) (omega arith) in (rw e, rw e)
+  stays_at_end = let e = more_no (length copy) (block * whole) (omega arith) in (rw e, rw e)
 
 -- as many blocks as asked for
 pub blocks_count : (copy : List ℕ) (i n : ℕ) → length (blocks_of copy i n) ≡ n

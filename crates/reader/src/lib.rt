@@ -3,52 +3,31 @@
 //
 // It rests on choices and pages. It promises for any copy and any place which part is handed out, by its bytes and by where it lies, and
 // the next place (specs/Reader.antt); reading on gives the copy's whole blocks in order (specs/Blocks.antt). The plain step over copy and place is
-// `block_at` and `place_at`; `next` takes a reader apart, calls them and hands out the block with the reader moved on, and `first` goes from a
-// plain copy through a reader to its first block.
+// `block_at` and `place_at`; a reader is an iterator over its blocks, whose `next` takes it apart and calls them, and `first` goes from a plain copy
+// through a reader to its first block.
 #![tactic(auto)]
 
-ghost use Rattle.std.specs.Prelude.{◌≡◌, length};
-ghost use Rattle.reader.specs.Reader.{more_at, block_at, part_at, place_at, moved_on};
+ghost use Rattle.std.specs.Prelude.{◌≡◌, length, is_some, IfSome};
+ghost use Rattle.std.specs.Iterator.{at_most};
+ghost use Rattle.reader.specs.Reader.{more_at, block_at, part_at, place_at, led_to, moved_on, blocks_left};
 
-// A place in a copy, and whether the step that led there found a block.
-#[derive(Clone, Copy)]
-pub struct Place {
-    pub more: bool,
-    pub at: usize,
-}
-
-fn more_at(n: usize, at: usize) -> bool
-    ensures { result ≡ more_at n at }
+// The place after the block at a place of a copy of n bytes; none at the end.
+pub fn place_at(n: usize, at: usize) -> Option<usize>
+    ensures { led_to at result ≡ place_at n at }
 {
-    if at <= n {
-        return pages::BLOCK <= n - at;
-    }
-    false
+    let after = at.checked_add(pages::BLOCK)?;
+    if after <= n { Some(after) } else { None }
 }
 
-// The block at a place, as that part of the copy; the empty part at the end.
+// The block at a place, as that part of the copy; at the end the empty part where the copy starts, which is promised too, so it is no Option. What it
+// promises is said again of each way to a block: a must-fail edit at each changes one fact there.
 pub fn block_at<'a>(copy: &'a [u8], at: usize) -> &'a [u8]
     ensures { (result.now ≡ block_at copy.now at) × (result.ref_ptr ≡ part_at copy.entry.ref_ptr (length copy.now) at) }
 {
-    let more = more_at(copy.len(), at);
-    if more {
-        return &copy[at..at + pages::BLOCK];
+    match place_at(copy.len(), at) {
+        Some(after) => &copy[at..after],
+        None => &copy[0..0],
     }
-    &copy[0..0]
-}
-
-// Whether there is a block at a place of a copy of n bytes, and the place after it: at the end the place stays.
-pub fn place_at(n: usize, at: usize) -> Place
-    ensures { result ≡ place_at n at }
-{
-    let more = more_at(n, at);
-    if more {
-        return Place {
-            more: true,
-            at: at + pages::BLOCK,
-        };
-    }
-    Place { more: false, at }
 }
 
 #[derive(Clone, Copy)]
@@ -57,42 +36,42 @@ pub struct Reader<'a> {
     pub at: usize,
 }
 
-// What a reader hands out: the block as that part of the copy, whether there was one, and the reader moved on.
-#[derive(Clone, Copy)]
-pub struct Handed<'a> {
-    pub part: &'a [u8],
-    pub more: bool,
-    pub reader: Reader<'a>,
+impl<'a> Reader<'a> {
+    // A reader at the start of a copy.
+    pub fn start(copy: &'a [u8]) -> Reader<'a>
+        ensures { (result.copy ≡ copy.entry) × (result.at ≡ 0) }
+    {
+        Reader { copy, at: 0 }
+    }
+
+    // The block at the reader's place; the empty part at the end.
+    pub fn part(self) -> &'a [u8]
+        ensures { (result.now ≡ block_at self.entry.copy.now self.entry.at) × (result.ref_ptr ≡ part_at self.entry.copy.ref_ptr (length self.entry.copy.now) self.entry.at) }
+    {
+        block_at(self.copy, self.at)
+    }
 }
 
-// A reader at the start of a copy.
-pub fn start<'a>(copy: &'a [u8]) -> Reader<'a>
-    ensures { (result.copy ≡ copy.entry) × (result.at ≡ 0) }
-{
-    Reader { copy, at: 0 }
-}
+impl<'a> Iterator for Reader<'a> {
+    type Item = &'a [u8];
 
-// The block at the reader's place.
-pub fn part<'a>(r: Reader<'a>) -> &'a [u8]
-    ensures { (result.now ≡ block_at r.entry.copy.now r.entry.at) × (result.ref_ptr ≡ part_at r.entry.copy.ref_ptr (length r.entry.copy.now) r.entry.at) }
-{
-    block_at(r.copy, r.at)
-}
+    // The next block, and the reader after it: at the end no block, and the reader as it was.
+    ghost next_gives = { λ r b s. (is_some b ≡ more_at (length r.copy.now) r.at)
+        × IfSome b (λ p. p.now ≡ block_at r.copy.now r.at)
+        × IfSome b (λ p. p.ref_ptr ≡ part_at r.copy.ref_ptr (length r.copy.now) r.at)
+        × (s ≡ moved_on r) };
 
-// The next block, and the reader after it: at the end no block, and the reader as it was.
-pub fn next<'a>(r: Reader<'a>) -> Handed<'a>
-    ensures { ((result.part.now ≡ block_at r.entry.copy.now r.entry.at) × (result.part.ref_ptr ≡ part_at r.entry.copy.ref_ptr (length r.entry.copy.now) r.entry.at)) × ((result.more ≡ more_at (length r.entry.copy.now) r.entry.at) × (result.reader ≡ moved_on r.entry)) }
-{
-    let place = place_at(r.copy.len(), r.at);
-    let part = part(r);
-    let reader = Reader {
-        copy: r.copy,
-        at: place.at,
-    };
-    Handed {
-        part,
-        more: place.more,
-        reader,
+    ghost remaining = { λ r. at_most (blocks_left (length r.copy.now) r.at) };
+
+    fn next(&mut self) -> Option<&'a [u8]> {
+        let block = self.part();
+        match place_at(self.copy.len(), self.at) {
+            Some(after) => {
+                self.at = after;
+                Some(block)
+            }
+            None => None,
+        }
     }
 }
 
@@ -100,5 +79,5 @@ pub fn next<'a>(r: Reader<'a>) -> Handed<'a>
 pub fn first<'a>(copy: &'a [u8]) -> &'a [u8]
     ensures { (result.now ≡ block_at copy.now 0) × (result.ref_ptr ≡ part_at copy.entry.ref_ptr (length copy.now) 0) }
 {
-    part(start(copy))
+    Reader::start(copy).part()
 }

@@ -8,6 +8,7 @@
 ghost use Rattle.std.specs.Prelude.{◌≡◌};
 ghost use Rattle.record_layout.specs.Layout.{record_marks, record_bytes, host_at, controller_at, record_at, record_intact};
 
+use littleendian::LittleEndian;
 use records::{ControllerPage, HostPage, Identity, Record};
 
 // Its first eight bytes.
@@ -45,9 +46,9 @@ pub fn write_record(r: Record) -> [u8; 300]
     let controller_reason = controller.reason;
     let mut out = [0u8; 300];
     copies::put(&record_marks(r), &mut out, 0);
-    littleendian::put4(&mut out, 8, identity.oui);
-    arrays::put_fours(&mut out, 12, host_last);
-    arrays::put_fours(&mut out, 28, controller_last);
+    identity.oui.put_le(&mut out, 8);
+    arrays::put_all(&mut out, 12, &host_last);
+    arrays::put_all(&mut out, 28, &controller_last);
     arrays::put_reason(&mut out, 44, host_reason);
     arrays::put_reason(&mut out, 172, controller_reason);
     out
@@ -56,7 +57,7 @@ pub fn write_record(r: Record) -> [u8; 300]
 fn host_at(b: &[u8; 300]) -> HostPage
     ensures { result ≡ host_at b.now }
 {
-    let last = arrays::fours_at(b, 12);
+    let last = arrays::all_at(b, 12);
     let reason = arrays::reason_at(b, 44);
     HostPage {
         last,
@@ -68,7 +69,7 @@ fn host_at(b: &[u8; 300]) -> HostPage
 fn controller_at(b: &[u8; 300]) -> ControllerPage
     ensures { result ≡ controller_at b.now }
 {
-    let last = arrays::fours_at(b, 28);
+    let last = arrays::all_at(b, 28);
     let reason = arrays::reason_at(b, 172);
     ControllerPage {
         last,
@@ -85,7 +86,7 @@ pub fn read_record(b: &[u8; 300]) -> Record
 {
     let caps = shared_layouts::read_caps(b[0]);
     let identity = Identity {
-        oui: littleendian::value4_at(b, 8),
+        oui: u32::value_at(b, 8),
         hostscope: b[1],
         controllerscope: b[2],
     };

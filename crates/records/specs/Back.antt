@@ -1,7 +1,7 @@
 -- What agreement says of the numbers, and demand 2's reading back: the header that the writer makes from an agreeing record is checked
 -- by the host to exactly what it was written from, on both pages.
 -- Assumes nothing.
-use Rattle.std.specs.Prelude.{ℕ, zero, suc, ◌*◌, ◌^◌, ◌≤◌, ◌<◌, ◌≡◌, refl, List, Bool, true, false, ◌||◌, length, get_or, ltb, eqb}
+use Rattle.std.specs.Prelude.{ℕ, zero, suc, ◌*◌, ◌^◌, ◌≤◌, ◌<◌, ◌≡◌, refl, List, Bool, true, false, None, ◌||◌, length, get_or, ltb, eqb}
 use Rattle.std.proofs.Common.{arith, leb-true, ltb-true, eqb-true, le-leb, lt-ltb, eq-eqb}
 use Rattle.choices.specs.Tests.{holds, each, or_cases, clash, implied, implies}
 use Rattle.pages.specs.Pages.{host_page, controller_page, telemetry_page, block}
@@ -10,7 +10,6 @@ use Rattle.lastblocks.specs.Rule.{LastRule, last_rule, rule_last}
 use Rattle.pages.specs.declared.Caps.{Caps}
 use Rattle.pages.specs.Laws.{by_page}
 use Rattle.lastblocks.specs.Laws.{rule_ranged}
-use Rattle.header.specs.declared.Fault.TheVariants.{None}
 use Rattle.header.specs.Header.{header_of, fields_ok, check_of}
 use Rattle.header.specs.Back.{header_reads_back}
 use Rattle.records.specs.declared.Identity.{Identity}

@@ -11,7 +11,7 @@ ghost use Rattle.records.specs.Records.{identity_ok, store_ok, controller_ok, ag
 use header::Fields;
 use pages::Caps;
 
-// Fixed for a controller's life: the OUI, and the scopes of its 07h and its 08h data.
+// Fixed for a controller's life: the OUI, and the scopes of its 07h and its 08h data. A scope is any number, and `agrees` tells a bad one.
 #[derive(Clone, Copy)]
 pub struct Identity {
     pub oui: u32,
@@ -27,7 +27,7 @@ pub struct HostPage {
     pub reason: [u8; 128],
 }
 
-// Page 08h, controller-initiated. `notice` is the event that tells a host of it.
+// Page 08h, controller-initiated. `notice` is the event that tells a host of it. `tcda` is any number, and `agrees` tells one above 1.
 #[derive(Clone, Copy)]
 pub struct ControllerPage {
     pub last: [u32; 4],
@@ -45,6 +45,7 @@ pub struct Record {
     pub controller: ControllerPage,
 }
 
+#[tactic(auto, unfolding(crate::specs::Records::identity_ok, choices::specs::Tests::holds))]
 fn identity_ok(i: Identity) -> bool
     ensures { result ≡ identity_ok i }
 {
@@ -54,6 +55,7 @@ fn identity_ok(i: Identity) -> bool
 }
 
 // The last blocks keep the rule and lie within a store of this many bytes.
+#[tactic(auto, unfolding(crate::specs::Records::store_ok, choices::specs::Tests::holds))]
 fn store_ok(da4s: bool, last: [u32; 4], store: usize) -> bool
     ensures { result ≡ store_ok da4s last store }
 {
@@ -62,81 +64,82 @@ fn store_ok(da4s: bool, last: [u32; 4], store: usize) -> bool
 }
 
 // TCDA and the last blocks of 08h go together.
+#[tactic(auto, unfolding(crate::specs::Records::controller_ok, choices::specs::Tests::holds))]
 fn controller_ok(da4s: bool, tcda: u8, last: [u32; 4], store: usize) -> bool
     ensures { result ≡ controller_ok da4s tcda last store }
 {
-    let a3 = last[2];
     store_ok(da4s, last, store)
         & (tcda <= 1)
         & ((tcda != 0) | (lastblocks::greatest(last) == 0))
-        & ((tcda != 1) | (0 < a3))
+        & ((tcda != 1) | (0 < last[2]))
 }
 
 // The record agrees with itself and with stores of these many bytes. Where it does not, the answer of a command or a capture is 4.
+#[tactic(auto, unfolding(crate::specs::Records::agrees_with, choices::specs::Tests::holds))]
 pub fn agrees(r: Record, host_store: usize, controller_store: usize) -> bool
     ensures { result ≡ agrees_with r host_store controller_store }
 {
-    let caps = r.caps;
-    let identity = r.identity;
-    let host = r.host;
-    let controller = r.controller;
-    let host_last = host.last;
-    let controller_last = controller.last;
-    store_ok(caps.da4s, host_last, host_store)
+    store_ok(r.caps.da4s, r.host.last, host_store)
         & controller_ok(
-            caps.da4s,
-            controller.tcda,
-            controller_last,
+            r.caps.da4s,
+            r.controller.tcda,
+            r.controller.last,
             controller_store,
         )
-        & identity_ok(identity)
+        & identity_ok(r.identity)
 }
 
+// Of its eight fields the header of 08h has three in common: a function for both would be no plainer.
+#[tactic(auto, unfolding(crate::specs::Records::host_fields))]
 fn host_fields(r: Record) -> Fields
     ensures { result ≡ host_fields r }
 {
-    let identity = r.identity;
-    let host = r.host;
-    let controller = r.controller;
-    let last = host.last;
-    let reason = host.reason;
+    let HostPage {
+        last,
+        generation,
+        reason,
+    } = r.host;
     Fields {
         page: pages::HOST,
-        oui: identity.oui,
+        oui: r.identity.oui,
         last,
-        scope: identity.hostscope,
-        hostgeneration: host.generation,
-        tcda: controller.tcda,
-        controllergeneration: controller.generation,
+        scope: r.identity.hostscope,
+        hostgeneration: generation,
+        tcda: r.controller.tcda,
+        controllergeneration: r.controller.generation,
         reason,
     }
 }
 
+#[tactic(auto, unfolding(crate::specs::Records::controller_fields))]
 fn controller_fields(r: Record) -> Fields
     ensures { result ≡ controller_fields r }
 {
-    let identity = r.identity;
-    let controller = r.controller;
-    let last = controller.last;
-    let reason = controller.reason;
+    let ControllerPage {
+        last,
+        generation,
+        tcda,
+        reason,
+        ..
+    } = r.controller;
     Fields {
         page: pages::CONTROLLER,
-        oui: identity.oui,
+        oui: r.identity.oui,
         last,
-        scope: identity.controllerscope,
+        scope: r.identity.controllerscope,
         hostgeneration: 0,
-        tcda: controller.tcda,
-        controllergeneration: controller.generation,
+        tcda,
+        controllergeneration: generation,
         reason,
     }
 }
 
 // What a header of the page shows of the record: 07h's, and 08h's for any other number.
+#[tactic(auto, unfolding(crate::specs::Records::fields_for))]
 pub fn fields(page: u8, r: Record) -> Fields
     ensures { result ≡ fields_for page r }
 {
-    let host = page == pages::HOST;
-    if host {
+    if page == pages::HOST {
         host_fields(r)
     } else {
         controller_fields(r)
@@ -144,25 +147,24 @@ pub fn fields(page: u8, r: Record) -> Fields
 }
 
 // A record before any capture: generations, last blocks, reasons, TCDA and notice at zero.
+#[tactic(auto, unfolding(crate::specs::Records::fresh_of))]
 pub fn fresh(caps: Caps, identity: Identity) -> Record
     ensures { result ≡ fresh_of caps identity }
 {
-    let host = HostPage {
-        last: [0; 4],
-        generation: 0,
-        reason: [0; 128],
-    };
-    let controller = ControllerPage {
-        last: [0; 4],
-        generation: 0,
-        tcda: 0,
-        notice: false,
-        reason: [0; 128],
-    };
     Record {
         caps,
         identity,
-        host,
-        controller,
+        host: HostPage {
+            last: [0; 4],
+            generation: 0,
+            reason: [0; 128],
+        },
+        controller: ControllerPage {
+            last: [0; 4],
+            generation: 0,
+            tcda: 0,
+            notice: false,
+            reason: [0; 128],
+        },
     }
 }

@@ -5,8 +5,10 @@
 #![tactic(auto)]
 
 ghost use Rattle.std.specs.Prelude.{◌≡◌};
+ghost use Rattle.answers.specs.Answers.{result_number};
 ghost use Rattle.refusals.specs.Refusals.{most_count, first_refusal, refusal_by};
 
+use answers::Refusal;
 use phases::{Attempt, Phase};
 use plans::Plan;
 
@@ -14,6 +16,7 @@ use plans::Plan;
 const MOST_OF_ATTEMPT: u64 = 1048577;
 
 // What is known of a completion before it is looked at: that it is a success, and how long its data and the lent copy are.
+// `ok` is a flag beside the length, since `fits_by` promises 15 for data that come with a refusal.
 #[derive(Clone, Copy)]
 pub struct Offered {
     pub ok: bool,
@@ -28,32 +31,39 @@ fn most_count(attempts: u32) -> u64
 }
 
 // The first that speaks against a step: the state is over, it is not valid, the completion does not fit.
-fn first_refusal(over: bool, valid: bool, fits: bool) -> u8
-    ensures { result ≡ first_refusal over valid fits }
+fn first_refusal(over: bool, valid: bool, fits: bool) -> Result<(), Refusal>
+    ensures { result_number result ≡ first_refusal over valid fits }
 {
     if over {
-        return answers::ALREADY_ENDED;
+        return Err(Refusal::AlreadyEnded);
     }
     if !valid {
-        return answers::BAD_SETUP;
+        return Err(Refusal::BadSetup);
     }
     if !fits {
-        return answers::DOES_NOT_FIT;
+        return Err(Refusal::DoesNotFit);
     }
-    answers::SUCCESS
+    Ok(())
 }
 
-// 14, 13, 15, or 0: what speaks against a step, in a state of this plan, phase, attempt and count of commands.
-pub fn refusal(plan: Plan, phase: Phase, attempt: Attempt, count: u64, offered: Offered) -> u8
-    ensures { result ≡ refusal_by plan phase attempt count offered }
+// What speaks against a step, in a state of this plan, phase, attempt and count of commands: that it is over, then that it is bad, then that the completion does
+// not fit. It takes a state's parts: the struct stands above, beside `step`, which document 01 has as its method.
+#[tactic(auto, using(answers::specs::Refused::ok_is), unfolding(crate::specs::Refusals::refusal_by, choices::specs::Tests::holds, phases::specs::Asked::due_by))]
+pub fn refusal(
+    plan: Plan,
+    phase: Phase,
+    attempt: Attempt,
+    count: u64,
+    offered: Offered,
+) -> Result<(), Refusal>
+    ensures { result_number result ≡ refusal_by plan phase attempt count offered }
 {
-    let last = attempt.last;
-    let due = phases::expected(phase, plan, last);
-    let valid = (plans::setup_answer(plan) == answers::SUCCESS)
+    let due = phase.expected(plan, attempt.last);
+    let valid = plan.setup_answer().is_ok()
         & ((1 <= attempt.number) & (attempt.number <= plan.attempts))
         & (count <= most_count(plan.attempts))
         & due.within;
     let fits = (offered.copy == plan.room)
-        & (offered.bytes == choices::pick_usize(offered.ok, due.bytes, 0));
-    first_refusal(phases::ended(phase), valid, fits)
+        & (offered.bytes == choices::pick(offered.ok, due.bytes, 0));
+    first_refusal(phase.is_ended(), valid, fits)
 }

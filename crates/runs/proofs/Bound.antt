@@ -18,7 +18,6 @@ use Rattle.header.specs.Faults.{faultless_header}
 use Rattle.plans.specs.declared.Plan.{Plan}
 use Rattle.phases.specs.declared.Phase.{Phase}
 use Rattle.phases.specs.declared.Phase.TheVariants.{First, Chunk, Close, Ack, Ended}
-use Rattle.completions.specs.declared.Planned.{Planned}
 use Rattle.completions.specs.declared.Seen.{Seen}
 use Rattle.endings.specs.declared.Ending.{Ending}
 use Rattle.endings.specs.declared.Ending.TheVariants.{Success}
@@ -31,7 +30,7 @@ use Rattle.plans.specs.Plans.{setup_answer, area_last, fits_room, reach, in_reac
 use Rattle.phases.specs.Asked.{inside_by, within_by, phase_at}
 use Rattle.completions.specs.Completions.{seen_of}
 use Rattle.completions.specs.Looked.{TakenByPlan, Opens, look_closing, taken_as_checked, success_opens, opens_chunks, chunks_at_most}
-use Rattle.completions.specs.Plan.{plan_by}
+use Rattle.completions.specs.Plan.{Planned, plan_by}
 use Rattle.completions.specs.Planned.{planned_refused}
 use Rattle.refusals.specs.Refusals.{most_count}
 use Rattle.collection.specs.Collection.{valid_state, completion_fits, look_of, refusal_of, move_of, setup_of, answer_of}

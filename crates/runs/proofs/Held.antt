@@ -35,8 +35,8 @@ use Rattle.collection.specs.Laws.{move_cases, not_refused}
 use Rattle.collection.specs.Steps.{makes, touches, setup_taken, refused_step, refused_copy, taken_step, taken_copy}
 use Rattle.collection.specs.declared.Collection.{Collection}
 use Rattle.collection.specs.declared.Finish.{Finish}
-use Rattle.collection.specs.declared.Next.{Next}
-use Rattle.collection.specs.declared.Next.TheVariants.{Send, End as Ends, Refuse}
+use Rattle.collection.specs.Told.{Next}
+use Rattle.collection.specs.Told.{Send, End as Ends, Refuse}
 use Rattle.runs.specs.Run.{after, state_of, record_of}
 use Rattle.runs.specs.Counted.{step_counts}
 use Rattle.runs.specs.Bound.{Reached}

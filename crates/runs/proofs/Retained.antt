@@ -25,9 +25,9 @@ use Rattle.collection.specs.Copied.{not_sent}
 use Rattle.collection.specs.Laws.{move_cases}
 use Rattle.collection.specs.Steps.{makes, awaited_taken, setup_taken, refused_step, taken_step}
 use Rattle.collection.specs.declared.Collection.{Collection}
-use Rattle.collection.specs.declared.Next.{Next}
-use Rattle.collection.specs.declared.Next.TheVariants.{Send, End as Ends, Refuse}
-use Rattle.collection.specs.declared.Stepped.{Stepped}
+use Rattle.collection.specs.Told.{Next}
+use Rattle.collection.specs.Told.{Send, End as Ends, Refuse}
+use Rattle.collection.specs.Told.{Stepped}
 use Rattle.runs.specs.Run.{Completion, step_by, given, play, record_of}
 use Rattle.runs.specs.Counted.{step_counts}
 use Rattle.runs.specs.Bound.{Reached}

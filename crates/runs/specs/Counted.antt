@@ -14,8 +14,8 @@ use Rattle.collection.specs.Steps.{makes, setup_taken, setup_refused, refused_st
 use Rattle.choices.specs.Tests.{same_or_not}
 use Rattle.collection.specs.declared.Collection.{Collection}
 use Rattle.collection.specs.declared.Finish.{Finish}
-use Rattle.collection.specs.declared.Next.TheVariants.{Send, End as Ends}
-use Rattle.collection.specs.declared.Stepped.{Stepped}
+use Rattle.collection.specs.Told.{Send, End as Ends}
+use Rattle.collection.specs.Told.{Stepped}
 use Rattle.runs.specs.Run.{Completion, step_by, given, after, play, state_of, record_of}
 
 -- what a step keeps: the plan, the count of commands given, and that an ending says the count

@@ -9,14 +9,9 @@ use Rattle.copies.specs.Lists.{take-append, drop-append, drop-take, take-zeros}
 use Rattle.copies.specs.Parts.{zeros, length-zeros}
 use Rattle.pages.specs.Pages.{block}
 
--- the lesser of two numbers, shut, so that a caller reads its bounds
+-- the lesser of two numbers
 unfoldable pub lesser_of : ℕ → ℕ → ℕ
 lesser_of a b = min a b
-
-pub record Lesser (a b r : ℕ) : Type 0 where
-  pub is : r ≡ lesser_of a b
-  pub left : r ≤ a
-  pub right : r ≤ b
 
 -- a page: its header, then the first blocks of its store
 unfoldable pub page_bytes : List ℕ → List ℕ → ℕ → List ℕ

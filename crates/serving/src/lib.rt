@@ -4,62 +4,49 @@
 // and that the rest of the buffer stays (specs/Serving.antt). Bytes move in three straight runs, and no more of the store is touched than is asked for.
 #![tactic(auto)]
 
-ghost use Rattle.std.specs.Prelude.{◌≡◌, ◌++◌, ◌+◌, ◌*◌, ◌≤◌, length, take, drop};
+ghost use Rattle.std.specs.Prelude.{◌≡◌, ◌++◌, ◌+◌, ◌-◌, ◌≤◌, length};
 ghost use Rattle.pages.specs.Pages.{block, per_page};
 ghost use Rattle.header.specs.Header.{header_of};
 ghost use Rattle.records.specs.Records.{fields_for, blocks_for};
-ghost use Rattle.serving.specs.Serving.{Lesser, window_of, served_into};
-ghost use Rattle.serving.specs.Runs.{runs_of};
+ghost use Rattle.copies.specs.Parts.{zeros};
+ghost use Rattle.serving.specs.Serving.{window_of, served_into};
 
 use records::Record;
 use words::Command;
 
-fn lesser(a: usize, b: usize) -> usize
-    ensures { Lesser a b result }
+// A front, then blocks, then zeros fill the buffer.
+fn put_runs(front: &[u8], blocks: &[u8], buf: &mut [u8])
+    requires { length front.now + length blocks.now ≤ length buf.old }
+    ensures { buf.new ≡ (front.now ++ blocks.now) ++ zeros (length buf.old - (length front.now + length blocks.now)) }
 {
-    if a < b { a } else { b }
+    let end = front.len() + blocks.len();
+    let rest = buf.len() - end;
+    copies::put(front, buf, 0);
+    copies::put(blocks, buf, front.len());
+    copies::put_zeros(rest, buf, end);
 }
 
-// n bytes of the header from a on, then k bytes of the store from b on, then z zeros.
-fn put_runs(
-    header: &[u8],
-    a: usize,
-    n: usize,
-    store: &[u8],
-    b: usize,
-    k: usize,
-    z: usize,
-    buf: &mut [u8],
-)
-    requires { (a + n ≤ length header.now) × (b + k ≤ length store.now) × (n + k + z ≤ length buf.old) }
-    ensures { buf.new ≡ runs_of header.now a n store.now b k z ++ drop (n + k + z) buf.old }
+// The buffer is filled with the page's bytes from the offset on, with zeros past its end: the page is its header and these blocks.
+fn put_window(header: &[u8], blocks: &[u8], offset: usize, buf: &mut [u8])
+    requires { length header.now ≡ block }
+    ensures { buf.new ≡ window_of offset (length buf.old) (header.now ++ blocks.now) }
 {
-    copies::put(&header[a..a + n], buf, 0);
-    copies::put(&store[b..b + k], buf, n);
-    copies::put_zeros(z, buf, n + k);
-}
-
-fn put_window(header: &[u8], store: &[u8], size: usize, offset: usize, bytes: usize, buf: &mut [u8])
-    requires { (length header.now ≡ block) × (size ≤ length store.now) × (bytes ≤ length buf.old) }
-    ensures { buf.new ≡ window_of offset bytes (header.now ++ take size store.now) ++ drop bytes buf.old }
-{
-    let a = lesser(offset, pages::BLOCK);
-    let n = lesser(bytes, pages::BLOCK - a);
-    let b = lesser(offset - a, size);
-    let k = lesser(bytes - n, size - b);
-    put_runs(header, a, n, store, b, k, bytes - n - k, buf);
+    let a = offset.min(pages::BLOCK);
+    let n = buf.len().min(pages::BLOCK - a);
+    let b = (offset - a).min(blocks.len());
+    let k = (buf.len() - n).min(blocks.len() - b);
+    put_runs(&header[a..a + n], &blocks[b..b + k], buf);
 }
 
 // The page is its header and the first blocks of its store. Its bytes from the offset on, with zeros past its end, go to the front of
 // `buf`. Where the store is shorter than the blocks, or `buf` shorter than the transfer, `buf` stays as it is.
+#[tactic(auto, unfolding(crate::specs::Serving::served_into, crate::specs::Serving::page_bytes))]
 fn serve(header: [u8; 512], store: &[u8], blocks: u32, offset: usize, bytes: usize, buf: &mut [u8])
     ensures { buf.new ≡ served_into header store.now blocks offset bytes buf.old }
 {
-    let size = pages::BLOCK * (blocks as usize);
-    if size <= store.len() {
-        if bytes <= buf.len() {
-            put_window(&header, store, size, offset, bytes, buf);
-        }
+    let size = pages::in_bytes(blocks);
+    if (size <= store.len()) & (bytes <= buf.len()) {
+        put_window(&header, &store[..size], offset, &mut buf[..bytes]);
     }
 }
 
@@ -78,14 +65,12 @@ fn store_of<'a>(page: u8, host: &'a [u8], controller: &'a [u8]) -> &'a [u8]
 pub fn send<'a>(r: Record, host: &'a [u8], controller: &'a [u8], c: Command, buf: &mut [u8])
     ensures { buf.new ≡ served_into (header_of (fields_for c.page r)) (per_page c.page host.now controller.now) (blocks_for c.page r) c.offset c.bytes buf.old }
 {
-    let caps = r.caps;
     let f = records::fields(c.page, r);
     let last = f.last;
-    let store = store_of(c.page, host, controller);
     serve(
         header::write(f),
-        store,
-        pages::blocks(caps, last),
+        store_of(c.page, host, controller),
+        pages::blocks(r.caps, last),
         c.offset,
         c.bytes,
         buf,

@@ -1,10 +1,10 @@
 -- What the structs of include/bumbazeel.h are made of. A yes or no is 1 or 0.
 -- Assumes nothing.
-use Rattle.std.specs.Prelude.{ℕ, ◌+◌, ◌/◌, ◌%◌, [], ◌∷◌, Bool, ◌&&◌, leb, eqb}
+use Rattle.std.specs.Prelude.{ℕ, ◌+◌, ◌/◌, ◌%◌, [], ◌∷◌, Bool, ◌&&◌, Option, Some, None, leb, eqb}
 use Rattle.choices.specs.Choice.{pick, first_that}
 use Rattle.pages.specs.declared.Caps.{Caps}
 use Rattle.header.specs.declared.Fault.{Fault}
-use Rattle.header.specs.declared.Fault.TheVariants.{None, Length, Identifier, Area2, Area3, Area4, Scope, Available, Empty}
+use Rattle.header.specs.declared.Fault.TheVariants.{Length, Identifier, Area2, Area3, Area4, Scope, Available, Empty}
 
 -- ---- yes or no, and capabilities
 
@@ -27,28 +27,28 @@ caps_of b = record { extended = cap_bit b b; telemetry = cap_bit b (b / 2); da4s
 -- ---- what is at fault in a header
 
 -- the number of what is at fault: its place in the order of the check
-abbrev pub fault_number : Fault → ℕ
+abbrev pub fault_number : Option Fault → ℕ
 fault_number None = 0
-fault_number Length = 1
-fault_number Identifier = 2
-fault_number Area2 = 3
-fault_number Area3 = 4
-fault_number Area4 = 5
-fault_number Scope = 6
-fault_number Available = 7
-fault_number Empty = 8
+fault_number (Some Length) = 1
+fault_number (Some Identifier) = 2
+fault_number (Some Area2) = 3
+fault_number (Some Area3) = 4
+fault_number (Some Area4) = 5
+fault_number (Some Scope) = 6
+fault_number (Some Available) = 7
+fault_number (Some Empty) = 8
 
 -- what is at fault, by its number; nothing by 0 and by any number over 8
-unfoldable pub fault_by : ℕ → Fault
+unfoldable pub fault_by : ℕ → Option Fault
 fault_by n =
     first_that
-    ((eqb n 1, Length)
-    ∷ (eqb n 2, Identifier)
-    ∷ (eqb n 3, Area2)
-    ∷ (eqb n 4, Area3)
-    ∷ (eqb n 5, Area4)
-    ∷ (eqb n 6, Scope)
-    ∷ (eqb n 7, Available)
-    ∷ (eqb n 8, Empty)
+    ((eqb n 1, Some Length)
+    ∷ (eqb n 2, Some Identifier)
+    ∷ (eqb n 3, Some Area2)
+    ∷ (eqb n 4, Some Area3)
+    ∷ (eqb n 5, Some Area4)
+    ∷ (eqb n 6, Some Scope)
+    ∷ (eqb n 7, Some Available)
+    ∷ (eqb n 8, Some Empty)
     ∷ [])
     None

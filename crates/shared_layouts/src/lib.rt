@@ -15,14 +15,14 @@ use pages::Caps;
 // The greatest byte of capabilities.
 pub const MOST_CAPS: u8 = 31;
 
-// A yes or no as a byte: `value` or 0.
+// A yes or no as a byte: `value` or 0. It is no `choices::pick`, whose clause does not say that five of them fit a byte.
 pub fn bit(t: bool, value: u8) -> u8
     ensures { (result ≡ pick t value 0) × (result ≤ value) }
 {
     if t { value } else { 0 }
 }
 
-// Capabilities as a byte.
+// Capabilities as a byte, which the C interface has: a method would stand in `pages`, which knows no layout.
 pub fn caps_byte(c: Caps) -> u8
     ensures { result ≡ caps_byte c }
 {
@@ -33,11 +33,11 @@ pub fn caps_byte(c: Caps) -> u8
 fn is_known(b: u8) -> bool
     ensures { result ≡ leb b most_caps }
 {
-    let known = b <= MOST_CAPS;
-    known
+    b <= MOST_CAPS
 }
 
-// The capabilities that a byte says; none for a byte over 31.
+// The capabilities that a byte says; none for a byte over 31. It is no `TryFrom`, since such a byte is no error: it has the meaning that `caps_of` gives it.
+#[tactic(auto, unfolding(crate::specs::Layouts::caps_of))]
 pub fn read_caps(b: u8) -> Caps
     ensures { result ≡ caps_of b }
 {
@@ -51,36 +51,37 @@ pub fn read_caps(b: u8) -> Caps
     }
 }
 
-// The number of what is at fault in a header.
-pub fn fault_number(x: Fault) -> u8
+// The number of what is at fault in a header; 0 where nothing is. The C interface has it as a byte.
+pub fn fault_number(x: Option<Fault>) -> u8
     ensures { result ≡ fault_number x }
 {
     match x {
-        Fault::None => 0,
-        Fault::Length => 1,
-        Fault::Identifier => 2,
-        Fault::Area2 => 3,
-        Fault::Area3 => 4,
-        Fault::Area4 => 5,
-        Fault::Scope => 6,
-        Fault::Available => 7,
-        Fault::Empty => 8,
+        None => 0,
+        Some(Fault::Length) => 1,
+        Some(Fault::Identifier) => 2,
+        Some(Fault::Area2) => 3,
+        Some(Fault::Area3) => 4,
+        Some(Fault::Area4) => 5,
+        Some(Fault::Scope) => 6,
+        Some(Fault::Available) => 7,
+        Some(Fault::Empty) => 8,
     }
 }
 
-// What is at fault, by its number; nothing by 0 and by any number over 8.
-pub fn fault_by(n: u8) -> Fault
+// What is at fault, by its number; nothing by 0 and by any number over 8. The C interface has it as a byte, and such a number is no error, so it is no `TryFrom`.
+#[tactic(auto, unfolding(crate::specs::Layouts::fault_by))]
+pub fn fault_by(n: u8) -> Option<Fault>
     ensures { result ≡ fault_by n }
 {
     match n {
-        1 => Fault::Length,
-        2 => Fault::Identifier,
-        3 => Fault::Area2,
-        4 => Fault::Area3,
-        5 => Fault::Area4,
-        6 => Fault::Scope,
-        7 => Fault::Available,
-        8 => Fault::Empty,
-        _ => Fault::None,
+        1 => Some(Fault::Length),
+        2 => Some(Fault::Identifier),
+        3 => Some(Fault::Area2),
+        4 => Some(Fault::Area3),
+        5 => Some(Fault::Area4),
+        6 => Some(Fault::Scope),
+        7 => Some(Fault::Available),
+        8 => Some(Fault::Empty),
+        _ => None,
     }
 }

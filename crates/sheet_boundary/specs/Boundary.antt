@@ -4,9 +4,7 @@ use Rattle.std.specs.Prelude.{ℕ, List, ◌&&◌, eqb}
 use Rattle.choices.specs.Choice.{pick}
 use Rattle.answers.specs.Answers.{success, bad_setup}
 use Rattle.sheets.specs.declared.Sheet.{Sheet}
-use Rattle.sheets.specs.declared.Entered.{Entered}
-use Rattle.sheets.specs.declared.Mean.{Mean}
-use Rattle.sheets.specs.Sheets.{answered, add_of, no_mean, mean_of}
+use Rattle.sheets.specs.Sheets.{Entered, Mean, answered, add_of, no_mean, mean_of}
 use Rattle.entries.specs.declared.Run.{Run}
 use Rattle.entries.specs.Entries.{enter_of}
 use Rattle.sheet_layout.specs.Layout.{sheet_bytes, sheet_at, sheet_intact}

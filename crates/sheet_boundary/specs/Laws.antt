@@ -9,8 +9,7 @@ use Rattle.choices.specs.Tests.{holds, each, by_test}
 use Rattle.answers.specs.Answers.{success, bad_setup}
 use Rattle.littleendian.specs.Back.{Bytes, run_all, value_small}
 use Rattle.sheets.specs.declared.Sheet.{Sheet}
-use Rattle.sheets.specs.declared.Entered.{Entered}
-use Rattle.sheets.specs.Sheets.{greatest, blank, plus, fits, all_fit, add_of, possible}
+use Rattle.sheets.specs.Sheets.{Entered, greatest, blank, plus, fits, all_fit, add_of, possible}
 use Rattle.sheets.specs.Sums.{is_fit}
 use Rattle.sheets.specs.Laws.{add_taken, add_20}
 use Rattle.sheets.specs.Possible.{blank_possible, add_possible}

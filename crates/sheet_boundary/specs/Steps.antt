@@ -1,16 +1,49 @@
 -- What the code's calls come to, one after another.
 -- Assumes nothing.
-use Rattle.std.specs.Prelude.{ℕ, ◌≡◌, refl, List, Bool, true, false, ◌&&◌, replicate}
-use Rattle.std.proofs.Common.{ap, ◌∙◌, eq-eqb, ne_eqb}
+use Rattle.std.specs.Prelude.{ℕ, ◌≡◌, refl, List, Bool, true, false, ◌&&◌, Result, Ok, Err, is_ok, replicate}
+use Rattle.std.proofs.Common.{sym, ap, ◌∙◌, eq-eqb, ne_eqb}
+use Rattle.choices.specs.Choice.{pick}
+use Rattle.choices.specs.Tests.{clash, by_test}
 use Rattle.answers.specs.Answers.{success, bad_setup}
+use Rattle.answers.specs.declared.Refusal.{Refusal}
+use Rattle.answers.specs.declared.Refusal.TheVariants.{BadSetup}
 use Rattle.sheets.specs.declared.Sheet.{Sheet}
-use Rattle.sheets.specs.declared.Entered.{Entered}
-use Rattle.sheets.specs.declared.Mean.{Mean}
-use Rattle.sheets.specs.Sheets.{add_of, no_mean, mean_of}
+use Rattle.sheets.specs.Sheets.{Entered, Mean, outcome, add_of, no_mean, mean_of}
 use Rattle.entries.specs.declared.Run.{Run}
 use Rattle.entries.specs.Entries.{enter_of}
 use Rattle.sheet_layout.specs.Layout.{sheet_bytes, sheet_at, sheet_intact, mean_bytes}
 use Rattle.sheet_boundary.specs.Boundary.{damaged, enter_at, add_at, bytes_after, mean_answer, mean_at}
+
+-- the sheet that the bytes say, unless they are damaged
+abbrev pub sheet_of : List ℕ → Result Sheet Refusal
+sheet_of b = pick (sheet_intact b) (Ok (sheet_at b)) (Err BadSetup)
+
+-- what is read is the intact sheet
+pub record Read (b : List ℕ) (s : Sheet) : Type 0 where
+  pub intact : sheet_intact b ≡ true
+  pub is : s ≡ sheet_at b
+
+pub read_ok : (b : List ℕ) (s : Sheet) → Ok s ≡ sheet_of b → Read b s
+read_ok b s =
+    by_test (sheet_intact b)
+    (λ t. rw t (λ e. record { intact = t; is = ap (λ (x : Result Sheet Refusal). (outcome s x).sheet) e }))
+    (λ t. rw t (λ e. clash (sym (ap is_ok e)) refl))
+
+-- what is refused is damaged
+pub record Refused (b : List ℕ) (x : Refusal) : Type 0 where
+  pub damaged : sheet_intact b ≡ false
+  pub is : x ≡ BadSetup
+
+said : Result Sheet Refusal → Refusal
+said (Ok s) = BadSetup
+said (Err x) = x
+
+pub read_err : (b : List ℕ) (x : Refusal) → Err x ≡ sheet_of b → Refused b x
+unfolding said
+read_err b x =
+    by_test (sheet_intact b)
+    (λ t. rw t (λ e. clash (ap is_ok e) refl))
+    (λ t. rw t (λ e. record { damaged = t; is = ap said e }))
 
 pub written : (lent : List ℕ) (x : Entered) {b : List ℕ} → x.answer ≡ success → b ≡ sheet_bytes x.sheet → b ≡ bytes_after lent x
 written lent x e f = rw (eq-eqb x.answer success e) f

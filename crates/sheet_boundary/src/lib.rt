@@ -2,68 +2,63 @@
 //
 // It rests on sheet_layout for the structs and on sheets and entries for the work. It promises each function's answer and every lent byte afterwards, for all
 // arguments, as an equation with the definitions that those crates' contracts cite (specs/Boundary.antt). A damaged sheet is refused, what is refused
-// changes no byte, and what is written can be lent again (specs/Laws.antt).
+// changes no byte, and what is written can be lent again (specs/Laws.antt). The numbers and bytes of their arguments and answers are the C interface.
 #![tactic(auto)]
 
 ghost use Rattle.std.specs.Prelude.{◌≡◌};
-ghost use Rattle.sheets.specs.Sheets.{blank};
-ghost use Rattle.sheet_layout.specs.Layout.{sheet_bytes, mean_bytes};
-ghost use Rattle.sheet_boundary.specs.Boundary.{run_of, damaged, enter_at, add_at, bytes_after, mean_answer, mean_at};
+ghost use Rattle.answers.specs.Answers.{result_number};
+ghost use Rattle.sheets.specs.Sheets.{blank, outcome};
+ghost use Rattle.sheet_layout.specs.Layout.{sheet_bytes, sheet_at, mean_bytes};
+ghost use Rattle.sheet_boundary.specs.Boundary.{run_of, enter_at, add_at, bytes_after, mean_answer, mean_at};
+ghost use Rattle.sheet_boundary.specs.Steps.{sheet_of};
 
+use answers::Refusal;
 use entries::Run;
-use sheets::{Entered, Sheet};
+use sheets::Sheet;
 
-// What a damaged sheet gets.
-fn refused(sheet: Sheet) -> Entered
-    ensures { result ≡ damaged sheet }
+// The sheet that the bytes say, unless they are damaged.
+fn sheet_of(lent: &[u8; 104]) -> Result<Sheet, Refusal>
+    ensures { result ≡ sheet_of lent.now }
 {
-    Entered {
-        answer: answers::BAD_SETUP,
-        sheet,
+    if sheet_layout::sheet_intact(lent) {
+        Ok(sheet_layout::read_sheet(lent))
+    } else {
+        Err(Refusal::BadSetup)
     }
 }
 
 // A run entered into the sheet that the bytes say, unless they are damaged.
-fn enter_at(lent: &[u8; 104], run: Run) -> Entered
-    ensures { result ≡ enter_at lent.now run }
+fn enter_at(lent: &[u8; 104], run: Run) -> Result<Sheet, Refusal>
+    ensures { outcome (sheet_at lent.now) result ≡ enter_at lent.now run }
 {
-    let sheet = sheet_layout::read_sheet(lent);
-    if sheet_layout::sheet_intact(lent) {
-        entries::add_run(sheet, run)
-    } else {
-        refused(sheet)
-    }
+    entries::add_run(sheet_of(lent)?, run)
 }
 
 // The sheet that other bytes say added to it, unless either are damaged.
-fn add_at(lent: &[u8; 104], more: &[u8; 104]) -> Entered
-    ensures { result ≡ add_at lent.now more.now }
+fn add_at(lent: &[u8; 104], more: &[u8; 104]) -> Result<Sheet, Refusal>
+    ensures { outcome (sheet_at lent.now) result ≡ add_at lent.now more.now }
 {
-    let sheet = sheet_layout::read_sheet(lent);
-    let second = sheet_layout::read_sheet(more);
-    if sheet_layout::sheet_intact(lent) & sheet_layout::sheet_intact(more) {
-        sheets::add(sheet, second)
-    } else {
-        refused(sheet)
-    }
+    let sheet = sheet_of(lent)?;
+    let second = sheet_of(more)?;
+    sheet.add(second)
 }
 
-// The sheet's bytes afterwards: with 0 those of the new sheet, else as they were.
-fn bytes_after(lent: [u8; 104], x: Entered) -> [u8; 104]
-    ensures { result ≡ bytes_after lent x }
+// The answer's number; with 0 the new sheet is written over the one that was lent, which else stays as it was.
+fn settled(lent: &mut [u8; 104], entered: Result<Sheet, Refusal>) -> u8
+    ensures { (result ≡ result_number entered)
+        × (lent.new ≡ bytes_after lent.old (outcome (sheet_at lent.old) entered)) }
 {
-    if x.answer == answers::SUCCESS {
-        let after = x.sheet;
-        return sheet_layout::write_sheet(after);
+    if let Ok(after) = entered {
+        *lent = sheet_layout::write_sheet(after);
     }
-    lent
+    answers::number(entered)
 }
 
 // Writes a sheet with no run entered.
 pub fn bumbazeel_new_sheet(sheet: &mut [u8; 104])
     ensures { sheet.new ≡ sheet_bytes blank }
 {
-    *sheet = sheet_layout::write_sheet(sheets::none());
+    *sheet = sheet_layout::write_sheet(Sheet::default());
 }
 
 // Enters a finished run: how it ended, the blocks kept, the commands sent and the failed attempts.
@@ -71,18 +66,14 @@ pub fn bumbazeel_enter(sheet: &mut [u8; 104], ending: u8, kept: u64, sent: u64, 
     ensures { (result ≡ (enter_at sheet.old (run_of ending kept sent failed)).answer)
         × (sheet.new ≡ bytes_after sheet.old (enter_at sheet.old (run_of ending kept sent failed))) }
 {
-    let lent = *sheet;
-    let x = enter_at(
-        &lent,
-        Run {
-            ending,
-            blocks: kept,
-            commands: sent,
-            failed,
-        },
-    );
-    *sheet = bytes_after(lent, x);
-    x.answer
+    let run = Run {
+        ending,
+        blocks: kept,
+        commands: sent,
+        failed,
+    };
+    let entered = enter_at(sheet, run);
+    settled(sheet, entered)
 }
 
 // Adds another sheet.
@@ -90,10 +81,8 @@ pub fn bumbazeel_add(sheet: &mut [u8; 104], more: &[u8; 104]) -> u8
     ensures { (result ≡ (add_at sheet.old more.now).answer)
         × (sheet.new ≡ bytes_after sheet.old (add_at sheet.old more.now)) }
 {
-    let lent = *sheet;
-    let x = add_at(&lent, more);
-    *sheet = bytes_after(lent, x);
-    x.answer
+    let added = add_at(sheet, more);
+    settled(sheet, added)
 }
 
 // The mean blocks a good run.
@@ -101,10 +90,17 @@ pub fn bumbazeel_mean(sheet: &[u8; 104], mean: &mut [u8; 24]) -> u8
     ensures { (result ≡ mean_answer sheet.now)
         × (mean.new ≡ mean_bytes (mean_at sheet.now)) }
 {
-    if sheet_layout::sheet_intact(sheet) {
-        *mean = sheet_layout::write_mean(sheets::mean_of(sheet_layout::read_sheet(sheet)));
-        return answers::SUCCESS;
+    match sheet_of(sheet) {
+        Ok(intact) => {
+            *mean = match intact.mean() {
+                Some(m) => sheet_layout::write_mean(true, m.whole, m.rest),
+                None => sheet_layout::write_mean(false, 0, 0),
+            };
+            answers::SUCCESS
+        }
+        Err(refusal) => {
+            *mean = [0; 24];
+            refusal.number()
+        }
     }
-    *mean = [0; 24];
-    answers::BAD_SETUP
 }

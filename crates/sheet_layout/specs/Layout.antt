@@ -5,8 +5,7 @@ use Rattle.choices.specs.Choice.{one}
 use Rattle.choices.specs.Tests.{holds}
 use Rattle.littleendian.specs.Numbers.{bytes_of, value_at}
 use Rattle.sheets.specs.declared.Sheet.{Sheet}
-use Rattle.sheets.specs.declared.Mean.{Mean}
-use Rattle.sheets.specs.Sheets.{each_of, possible}
+use Rattle.sheets.specs.Sheets.{Mean, each_of, possible}
 
 -- the bytes "BZSHEET1", as a number
 abbrev pub mark : ℕ

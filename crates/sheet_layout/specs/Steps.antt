@@ -1,6 +1,7 @@
 -- What the code's calls come to, one after another.
 -- Assumes nothing.
-use Rattle.std.specs.Prelude.{◌≡◌, ℕ, ◌+◌, ◌%◌, ◌^◌, Bool, ◌&&◌, List, [], ◌∷◌, ◌==◌, slice_index}
+use Rattle.std.specs.Prelude.{◌≡◌, ℕ, ◌+◌, ◌%◌, ◌^◌, Bool, ◌&&◌, List, [], ◌∷◌, ◌++◌, ◌==◌, length, replicate, slice_index, refl}
+use Rattle.std.specs.List.{fold}
 use Rattle.std.proofs.Common.{ap, ◌∙◌, arith}
 use Rattle.std.proofs.Math.Nat.{mod-add-mod}
 use mir.Val.{bool_byte}
@@ -9,10 +10,10 @@ use Rattle.choices.specs.Tests.{holds}
 use Rattle.copies.specs.Parts.{zeros, put_at}
 use Rattle.littleendian.specs.Numbers.{bytes_of, value_at}
 use Rattle.littleendian.specs.Puts.{then}
+use Rattle.arrays.specs.Arrays.{numbers_of, values_at}
 use Rattle.sheets.specs.declared.Sheet.{Sheet}
-use Rattle.sheets.specs.declared.Mean.{Mean}
-use Rattle.sheets.specs.Sheets.{each_of, possible}
-use Rattle.sheets.specs.Steps.{wrap, number_is}
+use Rattle.sheets.specs.Sheets.{Mean, each_of, no_mean, possible}
+use Rattle.sheets.specs.Steps.{wrap, number_is, eight_of}
 use Rattle.sheet_layout.specs.Layout.{mark, eights_of, eights_at, total, totals, check_of, sheet_bytes, sheet_at, sheet_intact, mean_bytes}
 
 -- ---- writing
@@ -85,6 +86,14 @@ check_is s e0 e1 e2 e3 e4 e5 e6 e7 k c f =
     onto : (x : ℕ) {a b : ℕ} → a ≡ b → (a + x) % 2 ^ 64 ≡ (b + x) % 2 ^ 64
     onto x e = ap (λ (n : ℕ). (n + x) % 2 ^ 64) e
 
+-- the runs added one after another
+pub runs_by_fold : (n : List ℕ) → length n ≡ 8 → fold wrap mark n ≡ stepwise mark (each_of (λ (i : ℕ). slice_index n i))
+runs_by_fold n l = ap (fold wrap mark) (eight_of n l)
+
+-- eight numbers, as one put of all
+pub put_eight : (a d o : List ℕ) (at : ℕ) → length a ≡ 8 → o ≡ put_at d at (numbers_of 8 (λ (x : ℕ). x) a) → o ≡ put_at d at (eights_of a)
+put_eight a d o at l e = e ∙ ap (λ (x : List ℕ). put_at d at (numbers_of 8 (λ (y : ℕ). y) x)) (eight_of a l)
+
 -- a sheet
 pub sheet_is : (s : Sheet) {check : ℕ} {r o p q t u v : List ℕ} → r ≡ eights_of s.runs → check ≡ check_of s
     → o ≡ put_at (zeros 104) 0 (bytes_of 8 mark) → p ≡ put_at o 8 r → q ≡ put_at p 72 (bytes_of 8 s.blocks) → t ≡ put_at q 80 (bytes_of 8 s.commands)
@@ -134,3 +143,6 @@ pub intact_is : (b : List ℕ) {s : Sheet} {m k check : ℕ} {can : Bool} → s 
     → (m == mark) && k == check && can ≡ sheet_intact b
 unfolding sheet_intact holds
 intact_is b es em ek ec ep = rw (ep, ec, ek, em, es)
+
+pub eight_values : (b : List ℕ) → values_at 8 (λ (n : ℕ). n) 8 8 b ≡ eights_at 8 b
+eight_values b = refl

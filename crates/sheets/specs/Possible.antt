@@ -6,8 +6,7 @@ use Rattle.std.proofs.lemmas.Bool.{eqb-false}
 use Rattle.choices.specs.Choice.{pick_cases}
 use Rattle.choices.specs.Tests.{by_test, and_left, and_right, or_cases}
 use Rattle.sheets.specs.declared.Sheet.{Sheet}
-use Rattle.sheets.specs.declared.Entered.{Entered}
-use Rattle.sheets.specs.Sheets.{good, blank, plus, all_fit, add_of, any_run, possible}
+use Rattle.sheets.specs.Sheets.{Entered, good, blank, plus, all_fit, add_of, any_run, possible}
 
 -- ---- by numbers
 

@@ -1,17 +1,17 @@
 -- Document 02, Q-12: the month's sheet. Exact totals over finished runs, how sheets are added, and the mean.
 -- Assumes nothing.
-use Rattle.std.specs.Prelude.{ℕ, ◌+◌, ◌/◌, ◌%◌, Bool, true, false, ◌&&◌, ◌||◌, leb, List, [], ◌∷◌, map, ◌==◌, nat_le, slice_index}
+use Rattle.std.specs.Prelude.{ℕ, ◌+◌, ◌/◌, ◌%◌, Bool, true, false, ◌&&◌, ◌||◌, leb, List, [], ◌∷◌, Option, Some, None, Result, Ok, Err, map, ◌==◌, nat_le, slice_index}
 use Rattle.choices.specs.Choice.{pick}
 use Rattle.choices.specs.Tests.{holds}
-use Rattle.answers.specs.Answers.{success, bad_header, no_room, attempts_used_up, withdrawn, nothing, broke_its_word, out_of_reach, total_full}
+use Rattle.answers.specs.Answers.{success, bad_header, no_room, attempts_used_up, withdrawn, nothing, broke_its_word, out_of_reach, total_full, refusal_number}
+use Rattle.answers.specs.declared.Refusal.{Refusal}
 use Rattle.sheets.specs.declared.Sheet.{Sheet}
-use Rattle.sheets.specs.declared.Entered.{Entered}
-use Rattle.sheets.specs.declared.Mean.{Mean}
+use Rattle.sheets.specs.declared.Mean as code
 
 -- ---- one of a row
 
 -- the test t or one of the row
-abbrev or_from : Bool → List Bool → Bool
+abbrev pub or_from : Bool → List Bool → Bool
 or_from t [] = t
 or_from t (u ∷ us) = or_from (t || u) us
 
@@ -64,7 +64,12 @@ all_fit a b = holds
     ∷ fits a.failed b.failed
     ∷ each_of (λ (i : ℕ). fits (slice_index a.runs i) (slice_index b.runs i)))
 
--- an answer and the sheet afterwards
+-- an answer, and the sheet afterwards
+pub record Entered : Type 0 where
+  pub answer : ℕ
+  pub sheet : Sheet
+
+-- the two together
 abbrev pub answered : ℕ → Sheet → Entered
 answered answer s = record { answer = answer; sheet = s }
 
@@ -72,11 +77,27 @@ answered answer s = record { answer = answer; sheet = s }
 unfoldable pub add_of : Sheet → Sheet → Entered
 add_of s other = pick (all_fit s other) (answered success (plus s other)) (answered total_full s)
 
+-- what comes of an entry into a sheet, or of an addition to it: the new sheet with 0, or the refusal's number and the sheet as it was
+abbrev pub outcome : Sheet → Result Sheet Refusal → Entered
+outcome s (Ok after) = answered success after
+outcome s (Err refusal) = answered (refusal_number refusal) s
+
 -- ---- the mean
+
+-- the mean blocks a good run: whether there is one, its whole part, and what is left of the blocks. Where there is none, both are 0
+pub record Mean : Type 0 where
+  pub given : Bool
+  pub whole : ℕ
+  pub rest : ℕ
 
 -- there is no mean
 abbrev pub no_mean : Mean
 no_mean = record { given = false; whole = 0; rest = 0 }
+
+-- the mean that is told, or none
+abbrev pub told : Option code.Mean → Mean
+told (Some m) = record { given = true; whole = m.whole; rest = m.rest }
+told None = no_mean
 
 -- so many blocks shared among so many good runs
 abbrev pub shared : ℕ → ℕ → Mean

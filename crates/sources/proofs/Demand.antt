@@ -18,9 +18,9 @@ use Rattle.phases.specs.Asked.{words_by}
 use Rattle.collection.specs.Collection.{awaited_of, beginning, setup_of}
 use Rattle.collection.specs.Steps.{setup_taken}
 use Rattle.collection.specs.declared.Finish.{Finish}
-use Rattle.collection.specs.declared.Next.{Next}
-use Rattle.collection.specs.declared.Next.TheVariants.{Send, End as Ends, Refuse}
-use Rattle.collection.specs.declared.Stepped.{Stepped}
+use Rattle.collection.specs.Told.{Next}
+use Rattle.collection.specs.Told.{Send, End as Ends, Refuse}
+use Rattle.collection.specs.Told.{Stepped}
 use Rattle.runs.specs.Run.{given, acknowledging, most_chunks}
 use Rattle.runs.specs.Bound.{Reached}
 use Rattle.runs.proofs.Bound.{reached_count, reached_more, old_chunks, begins}

@@ -21,7 +21,7 @@ use Rattle.collection.specs.Steps.{ended_in}
 use Rattle.endings.specs.declared.Ending.{Ending}
 use Rattle.turns.specs.Turns.{good}
 use Rattle.collection.specs.declared.Collection.{Collection}
-use Rattle.collection.specs.declared.Stepped.{Stepped}
+use Rattle.collection.specs.Told.{Stepped}
 use Rattle.collection.specs.Copied.{copy_length, ending_copy}
 use Rattle.runs.specs.Run.{Completion, given, called_for, most_chunks}
 use Rattle.runs.specs.Counted.{step_counts}

@@ -9,33 +9,37 @@ ghost use Rattle.std.specs.Prelude.{◌≡◌};
 ghost use Rattle.state_layout.specs.Layout.{phase_byte, chunk_start, phase_of, state_marks, state_bytes, plan_from, state_at, state_intact};
 
 use collection::Collection;
+use littleendian::LittleEndian;
 use phases::{Attempt, Phase};
 use plans::Plan;
 
+// The number of a phase. The C interface has it as a byte, and the start of a chunk apart from it.
 fn phase_byte(phase: Phase) -> u8
     ensures { result ≡ phase_byte phase }
 {
     match phase {
         Phase::First => 0,
         Phase::Chunk(_) => 1,
-        Phase::Close(after) => choices::pick_u8(after, 3, 2),
+        Phase::Close(false) => 2,
+        Phase::Close(true) => 3,
         Phase::Ack => 4,
         Phase::Ended => 5,
     }
 }
 
+// The block of an awaited chunk; 0 in any other phase.
 fn chunk_start(phase: Phase) -> u32
     ensures { result ≡ chunk_start phase }
 {
     match phase {
-        Phase::First => 0,
         Phase::Chunk(at) => at,
-        Phase::Close(_) => 0,
-        Phase::Ack => 0,
-        Phase::Ended => 0,
+        _ => 0,
     }
 }
 
+// The phase by its number: over 4 nothing is awaited.
+#[tactic(auto, unfolding(crate::specs::Layout::phase_of))]
+// The C interface has it as a byte: any number is read, and `state_intact` tells one over 5.
 fn phase_of(n: u8, at: u32) -> Phase
     ensures { result ≡ phase_of n at }
 {
@@ -83,10 +87,10 @@ pub fn write_state(s: Collection) -> [u8; 56]
     copies::put(&state_marks(s), &mut out, 0);
     let start = chunk_start(phase);
     let numbers = [plan.chunk, plan.attempts, attempt.number, start];
-    arrays::put_fours(&mut out, 8, numbers);
-    littleendian::put8(&mut out, 24, plan.room as u64);
-    littleendian::put8(&mut out, 32, s.count);
-    arrays::put_fours(&mut out, 40, last);
+    arrays::put_all(&mut out, 8, &numbers);
+    (plan.room as u64).put_le(&mut out, 24);
+    s.count.put_le(&mut out, 32);
+    arrays::put_all(&mut out, 40, &last);
     out
 }
 
@@ -100,7 +104,7 @@ fn plan_at(b: &[u8; 56], chunk: u32, attempts: u32) -> Plan
         area: b[3],
         chunk,
         attempts,
-        room: littleendian::value8_at(b, 24) as usize,
+        room: u64::value_at(b, 24) as usize,
         caps,
     }
 }
@@ -109,10 +113,10 @@ fn plan_at(b: &[u8; 56], chunk: u32, attempts: u32) -> Plan
 pub fn read_state(b: &[u8; 56]) -> Collection
     ensures { result ≡ state_at b.now }
 {
-    let n = arrays::fours_at(b, 8);
+    let n: [u32; 4] = arrays::all_at(b, 8);
     let plan = plan_at(b, n[0], n[1]);
     let phase = phase_of(b[0], n[3]);
-    let last = arrays::fours_at(b, 40);
+    let last = arrays::all_at(b, 40);
     let attempt = Attempt {
         number: n[2],
         generation: b[5],
@@ -122,7 +126,7 @@ pub fn read_state(b: &[u8; 56]) -> Collection
         plan,
         phase,
         attempt,
-        count: littleendian::value8_at(b, 32),
+        count: u64::value_at(b, 32),
     }
 }
 
@@ -135,5 +139,5 @@ pub fn state_intact(b: &[u8; 56]) -> bool
         & (b[4] <= shared_layouts::MOST_CAPS)
         & (b[6] == 0)
         & (b[7] == 0)
-        & ((b[0] == 1) | (littleendian::value4_at(b, 20) == 0))
+        & ((b[0] == 1) | (u32::value_at(b, 20) == 0))
 }

@@ -2,7 +2,8 @@
 // acknowledgement clears. The file stdout beside src/ has what the paper says of each.
 #![tactic(auto)]
 
-use controller::Answered;
+use answers::Refusal;
+use captures::Candidate;
 use pages::Caps;
 use records::{Identity, Record};
 use std::io;
@@ -25,32 +26,27 @@ fn fresh(four: bool) -> Record {
     )
 }
 
-fn fill(bytes: &mut [u8; 4608], place: usize, v: u8) {
-    copies::put(&[v; 512], bytes, place);
-}
-
 // Nine blocks, block i filled with i.
 fn nine() -> [u8; 4608] {
     let mut bytes = [1; 4608];
-    fill(&mut bytes, 512, 2);
-    fill(&mut bytes, 1024, 3);
-    fill(&mut bytes, 1536, 4);
-    fill(&mut bytes, 2048, 5);
-    fill(&mut bytes, 2560, 6);
-    fill(&mut bytes, 3072, 7);
-    fill(&mut bytes, 3584, 8);
-    fill(&mut bytes, 4096, 9);
+    for i in 1..9u8 {
+        copies::put(&[i + 1; 512], &mut bytes, 512 * (i as usize));
+    }
     bytes
 }
 
-// The answer and its class; then, of the record, the host generation, the third last block of 07h, the controller generation, TCDA
+// The answer and its class; then, of the record after it, the host generation, the third last block of 07h, the controller generation, TCDA
 // and the notice.
-fn show(rt: &impl Print, x: Answered) -> io::Result<Record> {
-    let r = x.own;
+fn show(rt: &impl Print, lent: Record, answer: Result<Record, Refusal>) -> io::Result<Record> {
+    let class = match answer {
+        Ok(_) => 0,
+        Err(refusal) => refusal.class_number(),
+    };
+    let r = answer.unwrap_or(lent);
     let host = r.host;
     let controller = r.controller;
     let last = host.last;
-    print!(rt; "{} {}", x.answer, x.class)?;
+    print!(rt; "{} {class}", answers::number(answer))?;
     print!(rt; " | 07h {} {}", host.generation, last[2])?;
     print!(rt; " | 08h {} {}", controller.generation, controller.tcda)?;
     if controller.notice {
@@ -77,7 +73,7 @@ fn words(cdw10: u32, cdw12: u32, cdw13: u32, cdw14: u32) -> Words {
     }
 }
 
-// A command with the candidate (2,2,5,9) and a buffer of 1,024 bytes of 200.
+// A command with the candidate (2,2,5,9) and a buffer of 1,024 bytes of 200. Record and stores stay parameters: a row goes on from any record.
 fn send(
     rt: &impl Print,
     r: Record,
@@ -87,17 +83,13 @@ fn send(
     w: Words,
 ) -> io::Result<Record> {
     let mut buf = [200; 1024];
-    let x = controller::command(
-        r,
-        host,
-        controller,
-        [2, 2, 5, 9],
-        &nine(),
+    let candidate = Candidate {
+        last: [2, 2, 5, 9],
+        bytes: &nine(),
         reason,
-        w,
-        &mut buf,
-    );
-    let next = show(rt, x)?;
+    };
+    let answer = controller::command(r, host, controller, candidate, w, &mut buf);
+    let next = show(rt, r, answer)?;
     ends(rt, &buf)?;
     Ok(next)
 }
@@ -159,8 +151,16 @@ fn capture(
     controller: &mut [u8; 4608],
     a: [u32; 4],
 ) -> io::Result<Record> {
-    let x = controller::capture(r, &[0; 4608], controller, a, &nine(), &[78; 128]);
-    let next = show(rt, x)?;
+    let candidate = Candidate {
+        last: a,
+        bytes: &nine(),
+        reason: &[78; 128],
+    };
+    let next = show(
+        rt,
+        r,
+        controller::capture(r, &[0; 4608], controller, candidate),
+    )?;
     println!(rt;)?;
     Ok(next)
 }
@@ -206,13 +206,18 @@ fn orders(rt: &impl Print) -> io::Result<()> {
     to_host(rt, r, &mut host, 0x007f8507, 1536)?;
     to_host(rt, r, &mut host, 0x007f8507, 2048)?;
     println!(rt; "a scope of 3 disagrees, before the identifier is looked at")?;
-    let caps = r.caps;
     let identity = Identity {
         oui: 0,
         hostscope: 3,
         controllerscope: 1,
     };
-    to_host(rt, records::fresh(caps, identity), &mut host, 0x007f8002, 0)?;
+    to_host(
+        rt,
+        records::fresh(r.caps, identity),
+        &mut host,
+        0x007f8002,
+        0,
+    )?;
     Ok(())
 }
 

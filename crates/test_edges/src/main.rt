@@ -4,17 +4,17 @@
 // thousand commands it does not write them. The file stdout beside src/ has the table of these runs.
 #![tactic(auto)]
 
-use collection::{Collection, Next};
-use controller::Answered;
+use captures::Candidate;
+use collection::{Collection, Completion, Next};
 use pages::Caps;
 use phases::Phase;
 use plans::Plan;
-use records::{Identity, Record};
+use records::{ControllerPage, HostPage, Identity, Record};
 use std::io;
 use words::{Command, Words};
 
-// The most commands of a run: what comes before this one never happens.
-const NEVER: u32 = 200000;
+// More commands than any run has.
+const MOST: u32 = 200000;
 
 // The first words of another host's create on 07h and of its acknowledgement of 08h, both of one block.
 const CREATE: u32 = 0x007f8107;
@@ -44,24 +44,26 @@ struct Case {
     // Whether its commands are written.
     named: bool,
     // Another host acknowledges 08h before this command.
-    cleared: u32,
+    cleared: Option<u32>,
     // A firmware commit drops the data of 07h before this command.
-    dropped: u32,
+    dropped: Option<u32>,
     // The page is captured before these commands, so many times, and then all areas end at `then`.
-    captured: u32,
-    again: u32,
+    captured: Option<u32>,
+    again: Option<u32>,
     times: u32,
     then: u32,
     // And once before each closing header.
     busy: bool,
 }
 
-// The controller's record, the collection, and the answer of its ending, which is 255 before.
+// The controller's record, its store, the collection with its copy, and the copy that is wanted.
 #[derive(Drop)]
 struct Bench {
     own: Record,
+    store: [u8; 2560],
     state: Collection,
-    answer: u8,
+    copy: [u8; 2048],
+    want: [u8; 2048],
 }
 
 // Extended data or none: without it a plan has no blocks a command.
@@ -95,22 +97,26 @@ fn fresh(case: Case) -> Record {
         hostscope: 1,
         controllerscope: 1,
     };
-    let mut r = records::fresh(caps(case.chunk), identity);
-    let mut host = r.host;
-    let mut controller = r.controller;
-    host.generation = std::num::wrapping_sub_u8(case.generation, 1);
-    controller.generation = host.generation;
-    r.host = host;
-    r.controller = controller;
-    r
+    let r = records::fresh(caps(case.chunk), identity);
+    let generation = case.generation.wrapping_sub(1);
+    let host = HostPage {
+        generation,
+        ..r.host
+    };
+    let controller = ControllerPage {
+        generation,
+        ..r.controller
+    };
+    Record {
+        host,
+        controller,
+        ..r
+    }
 }
 
 // The first of some bytes, or all of them if they are fewer.
 fn front(bytes: &[u8], end: usize) -> &[u8] {
-    if end <= bytes.len() {
-        return &bytes[0..end];
-    }
-    bytes
+    bytes.get(..end).unwrap_or(bytes)
 }
 
 fn first_blocks(bytes: &[u8], blocks: u32) -> &[u8] {
@@ -119,122 +125,102 @@ fn first_blocks(bytes: &[u8], blocks: u32) -> &[u8] {
 
 // ---- what happens between the run's commands
 
-fn fill(bytes: &mut [u8; 2560], place: usize, v: u8) {
-    copies::put(&[v; 512], bytes, place);
-}
-
 // Five blocks, the first filled with `v` and each one after it with one more.
 fn five(v: u8) -> [u8; 2560] {
     let mut bytes = [v; 2560];
-    fill(&mut bytes, 512, std::num::wrapping_add_u8(v, 1));
-    fill(&mut bytes, 1024, std::num::wrapping_add_u8(v, 2));
-    fill(&mut bytes, 1536, std::num::wrapping_add_u8(v, 3));
-    fill(&mut bytes, 2048, std::num::wrapping_add_u8(v, 4));
+    for i in 1..5u8 {
+        copies::put(&[v.wrapping_add(i); 512], &mut bytes, 512 * (i as usize));
+    }
     bytes
 }
 
-// A command with a candidate. A run has to do with one page alone, so both have the same store.
-fn send(
-    r: Record,
-    store: &mut [u8; 2560],
-    last: [u32; 4],
-    bytes: &[u8],
-    words: Words,
-    buf: &mut [u8],
-) -> Answered {
-    let same = *store;
-    controller::command(r, store, &same, last, bytes, &[1; 128], words, buf)
-}
-
-// Another host's command of one block.
-fn other(r: Record, store: &mut [u8; 2560], last: [u32; 4], bytes: &[u8], cdw10: u32) -> Record {
-    let words = Words {
-        cdw10,
-        cdw11: 0,
-        cdw12: 0,
-        cdw13: 0,
-        cdw14: 0,
-    };
-    let mut buf = [0u8; 512];
-    let x = send(r, store, last, bytes, words, &mut buf);
-    x.own
-}
-
-// A capture on a page: another host's create on 07h, or the controller's own on 08h.
-fn capture(page: u8, c: Content, r: Record, store: &mut [u8; 2560]) -> Record {
-    let five = five(c.v);
-    let last = [c.area, c.page, c.page, c.page];
-    let bytes = first_blocks(&five, c.page);
-    if page == pages::HOST {
-        return other(r, store, last, bytes, CREATE);
+impl Bench {
+    // A command with a candidate, and whether it succeeds. A run has to do with one page alone, so both have the same store.
+    fn send(&mut self, last: [u32; 4], bytes: &[u8], words: Words, buf: &mut [u8]) -> bool {
+        let same = self.store;
+        let candidate = Candidate {
+            last,
+            bytes,
+            reason: &[1; 128],
+        };
+        let answer = controller::command(self.own, &mut self.store, &same, candidate, words, buf);
+        self.own = answer.unwrap_or(self.own);
+        answer.is_ok()
     }
-    let x = controller::capture(r, b"", store, last, bytes, &[1; 128]);
-    x.own
-}
 
-// So many captures in a row.
-fn captures(times: u32, page: u8, c: Content, r: Record, store: &mut [u8; 2560]) -> Record {
-    let mut own = r;
-    for _ in 0..times {
-        own = capture(page, c, own, store);
+    // Another host's command of one block.
+    fn other(&mut self, last: [u32; 4], bytes: &[u8], cdw10: u32) {
+        let words = Words {
+            cdw10,
+            cdw11: 0,
+            cdw12: 0,
+            cdw13: 0,
+            cdw14: 0,
+        };
+        self.send(last, bytes, words, &mut [0u8; 512]);
     }
-    own
-}
 
-// Another host's acknowledgement of 08h, or nothing.
-fn cleared(go: bool, r: Record, store: &mut [u8; 2560]) -> Record {
-    if go {
-        return other(r, store, [0; 4], b"", ACKNOWLEDGE);
+    // A capture on a page: another host's create on 07h, or the controller's own on 08h.
+    fn capture(&mut self, page: u8, c: Content) {
+        let five = five(c.v);
+        let last = [c.area, c.page, c.page, c.page];
+        let bytes = first_blocks(&five, c.page);
+        if page == pages::HOST {
+            self.other(last, bytes, CREATE);
+        } else {
+            let candidate = Candidate {
+                last,
+                bytes,
+                reason: &[1; 128],
+            };
+            let answer = controller::capture(self.own, b"", &mut self.store, candidate);
+            self.own = answer.unwrap_or(self.own);
+        }
     }
-    r
-}
 
-// A drop of 07h, or nothing.
-fn dropped(go: bool, r: Record, store: &[u8]) -> Record {
-    if go {
-        let x = controller::drop(r, store, b"");
-        return x.own;
+    // So many captures in a row.
+    fn captures(&mut self, times: u32, page: u8, c: Content) {
+        for _ in 0..times {
+            self.capture(page, c);
+        }
     }
-    r
-}
 
-fn closing(phase: Phase) -> bool {
-    match phase {
-        Phase::First => false,
-        Phase::Chunk(_) => false,
-        Phase::Close(_) => true,
-        Phase::Ack => false,
-        Phase::Ended => false,
+    // A drop of 07h.
+    fn drop_host(&mut self) {
+        let answer = controller::drop(self.own, &self.store, b"");
+        self.own = answer.unwrap_or(self.own);
+    }
+
+    // What happens before a command: another host's acknowledgement of 08h, a drop, and then captures.
+    fn meanwhile(&mut self, case: Case, at: u32) {
+        if case.cleared == Some(at) {
+            self.other([0; 4], b"", ACKNOWLEDGE);
+        }
+        if case.dropped == Some(at) {
+            self.drop_host();
+        }
+        let content = Content {
+            area: case.then,
+            page: case.then,
+            v: 30,
+        };
+        self.captures(
+            captures_before(case, at, self.state.phase),
+            case.page,
+            content,
+        );
     }
 }
 
 // How many captures come before a command.
 fn captures_before(case: Case, at: u32, phase: Phase) -> u32 {
-    if (at == case.captured) | (at == case.again) {
+    if (case.captured == Some(at)) | (case.again == Some(at)) {
         return case.times;
     }
-    if case.busy & closing(phase) {
+    if case.busy & matches!(phase, Phase::Close(_)) {
         return 1;
     }
     0
-}
-
-// What happens before a command: an acknowledgement, a drop, and then captures.
-fn meanwhile(case: Case, at: u32, phase: Phase, r: Record, store: &mut [u8; 2560]) -> Record {
-    let kept = cleared(at == case.cleared, r, store);
-    let own = dropped(at == case.dropped, kept, store);
-    let content = Content {
-        area: case.then,
-        page: case.then,
-        v: 30,
-    };
-    captures(
-        captures_before(case, at, phase),
-        case.page,
-        content,
-        own,
-        store,
-    )
 }
 
 // ---- a command of the run
@@ -259,155 +245,112 @@ fn keep_area(asked: Command, r: Record, store: &[u8], want: &mut [u8]) {
     }
 }
 
-// What the step said: the answer of an ending, 254 for a refused step, or 255 while the run goes on.
-fn said(rt: &impl Print, next: Next) -> io::Result<u8> {
+// What the step said: whether the run ended well, if it ended.
+fn said(rt: &impl Print, next: Next) -> io::Result<Option<bool>> {
     match next {
-        Next::Send(_) => Ok(255),
+        Next::Send(_) => Ok(None),
         Next::End(e) => {
-            let ending = e.ending;
-            let answer = endings::number(ending);
+            let answer = e.ending.number();
             print!(rt; " | {answer}")?;
-            if endings::newer(ending) {
+            if e.ending.newer() {
                 print!(rt; " newer")?;
             }
             print!(rt; " | {}", e.count)?;
-            Ok(answer)
+            Ok(Some(answer == 0))
         }
-        Next::Refuse(_) => Ok(254),
+        Next::Refuse(_) => Ok(Some(false)),
     }
 }
 
 // How many bytes a completion brings: all that were asked for, or none, and a !, where the controller refused.
-fn brought(rt: &impl Print, answer: u8, bytes: usize) -> io::Result<usize> {
-    if answer == 0 {
+fn brought(rt: &impl Print, ok: bool, bytes: usize) -> io::Result<usize> {
+    if ok {
         return Ok(bytes);
     }
     print!(rt; "!")?;
     Ok(0)
 }
 
-fn complete(
-    rt: &impl Print,
-    own: Record,
-    state: Collection,
-    ok: bool,
-    data: &[u8],
-    copy: &mut [u8],
-) -> io::Result<Bench> {
-    let x = state.step(ok, data, copy);
-    let next = x.next;
-    let state = x.state;
-    let answer = said(rt, next)?;
-    Ok(Bench { own, state, answer })
-}
-
-// The awaited command goes to the controller and its completion to the collection.
-fn sent(
-    rt: &impl Print,
-    own: Record,
-    state: Collection,
-    store: &mut [u8; 2560],
-    copy: &mut [u8; 2048],
-    want: &mut [u8; 2048],
-) -> io::Result<Bench> {
-    let words = state.awaited();
-    let plan = state.plan;
-    let caps = plan.caps;
-    let asked = words::read(caps.extended, words);
-    let mut buf = [0u8; 2560];
-    keep_area(asked, own, store, want);
-    let x = send(own, store, [0; 4], b"", words, &mut buf);
-    let bytes = brought(rt, x.answer, asked.bytes)?;
-    complete(rt, x.own, state, x.answer == 0, front(&buf, bytes), copy)
-}
-
-// A command with what happens before it.
-fn turn(
-    rt: &impl Print,
-    case: Case,
-    at: u32,
-    b: Bench,
-    store: &mut [u8; 2560],
-    copy: &mut [u8; 2048],
-    want: &mut [u8; 2048],
-) -> io::Result<Bench> {
-    let state = b.state;
-    let phase = state.phase;
-    if case.named {
-        name(rt, phase)?;
+impl Bench {
+    // The awaited command goes to the controller and its completion to the collection.
+    fn sent(&mut self, rt: &impl Print) -> io::Result<Option<bool>> {
+        let words = self.state.awaited();
+        let asked = words::read(self.state.plan.caps.extended, words);
+        let mut buf = [0u8; 2560];
+        keep_area(asked, self.own, &self.store, &mut self.want);
+        let ok = self.send([0; 4], b"", words, &mut buf);
+        let bytes = brought(rt, ok, asked.bytes)?;
+        let completion = Completion {
+            ok,
+            data: front(&buf, bytes),
+        };
+        let x = self.state.step(completion, &mut self.copy);
+        self.state = x.state;
+        said(rt, x.next)
     }
-    let own = meanwhile(case, at, phase, b.own, store);
-    sent(rt, own, state, store, copy, want)
-}
 
-// The commands of a run, up to its ending, and the ending's answer.
-fn turns(
-    rt: &impl Print,
-    case: Case,
-    start: Bench,
-    store: &mut [u8; 2560],
-    copy: &mut [u8; 2048],
-    want: &mut [u8; 2048],
-) -> io::Result<u8> {
-    let mut b = start;
-    for at in 0..NEVER {
-        if b.answer != 255 {
-            return Ok(b.answer);
+    // A command with what happens before it.
+    fn turn(&mut self, rt: &impl Print, case: Case, at: u32) -> io::Result<Option<bool>> {
+        if case.named {
+            name(rt, self.state.phase)?;
         }
-        b = turn(rt, case, at, b, store, copy, want)?;
+        self.meanwhile(case, at);
+        self.sent(rt)
     }
-    Ok(b.answer)
-}
 
-// What the first two blocks of a copy begin with.
-fn begins(rt: &impl Print, copy: &[u8; 2048]) -> io::Result<()> {
-    println!(rt;
-        " | not the area but blocks that begin with {} and {}",
-        copy[0], copy[512]
-    )
-}
+    // The commands of a run, up to its ending, and whether it ended well.
+    fn turns(&mut self, rt: &impl Print, case: Case) -> io::Result<bool> {
+        for at in 0..MOST {
+            if let Some(good) = self.turn(rt, case, at)? {
+                return Ok(good);
+            }
+        }
+        Ok(false)
+    }
 
-// The end of a line: whether the copy is what the ending promises.
-fn end(rt: &impl Print, answer: u8, copy: &[u8; 2048], want: &[u8; 2048]) -> io::Result<()> {
-    if answer == 0 {
-        if copy.as_slice() == want.as_slice() {
-            println!(rt; " | the area, then zeros")
+    // The end of a line: whether the copy is what the ending promises.
+    fn end(&self, rt: &impl Print, good: bool) -> io::Result<()> {
+        if good {
+            if self.copy == self.want {
+                println!(rt; " | the area, then zeros")
+            } else {
+                println!(rt;
+                    " | not the area but blocks that begin with {} and {}",
+                    self.copy[0], self.copy[512]
+                )
+            }
         } else {
-            begins(rt, copy)
-        }
-    } else {
-        if copy.as_slice() == [0u8; 2048].as_slice() {
-            println!(rt; " | zeros")
-        } else {
-            println!(rt; " | not zeros")
+            if self.copy == [0u8; 2048] {
+                println!(rt; " | zeros")
+            } else {
+                println!(rt; " | not zeros")
+            }
         }
     }
 }
 
-fn begin(case: Case, store: &mut [u8; 2560]) -> Bench {
+fn begin(case: Case) -> Bench {
+    let mut b = Bench {
+        own: fresh(case),
+        store: [0u8; 2560],
+        state: beginnings::setup(plan(case)).state,
+        copy: [9u8; 2048],
+        want: [7u8; 2048],
+    };
     let content = Content {
         area: case.blocks,
         page: case.top,
         v: 10,
     };
-    let own = captures(case.once, case.page, content, fresh(case), store);
-    let x = beginnings::setup(plan(case));
-    let state = x.state;
-    Bench {
-        own,
-        state,
-        answer: 255,
-    }
+    b.captures(case.once, case.page, content);
+    b
 }
 
 fn run(rt: &impl Print, label: &str, case: Case) -> io::Result<()> {
-    let mut store = [0u8; 2560];
-    let mut copy = [9u8; 2048];
-    let mut want = [7u8; 2048];
     print!(rt; "{label}")?;
-    let b = begin(case, &mut store);
-    let answer = turns(rt, case, b, &mut store, &mut copy, &mut want)?;
-    end(rt, answer, &copy, &want)
+    let mut b = begin(case);
+    let good = b.turns(rt, case)?;
+    b.end(rt, good)
 }
 
 // ---- the runs
@@ -423,10 +366,10 @@ fn calm(page: u8, blocks: u32, chunk: u32, attempts: u32) -> Case {
         chunk,
         attempts,
         named: true,
-        cleared: NEVER,
-        dropped: NEVER,
-        captured: NEVER,
-        again: NEVER,
+        cleared: None,
+        dropped: None,
+        captured: None,
+        again: None,
         times: 1,
         then: 2,
         busy: false,
@@ -444,7 +387,7 @@ fn host(
 ) -> io::Result<()> {
     let mut c = calm(pages::HOST, blocks, 1, 2);
     c.generation = generation;
-    c.captured = captured;
+    c.captured = Some(captured);
     c.then = then;
     run(rt, label, c)
 }
@@ -458,7 +401,7 @@ fn acknowledged(
     cleared: u32,
 ) -> io::Result<()> {
     let mut c = calm(pages::CONTROLLER, blocks, chunk, 1);
-    c.cleared = cleared;
+    c.cleared = Some(cleared);
     run(rt, label, c)
 }
 
@@ -468,8 +411,8 @@ fn controller(
     label: &str,
     generation: u8,
     blocks: u32,
-    cleared: u32,
-    captured: u32,
+    cleared: Option<u32>,
+    captured: Option<u32>,
 ) -> io::Result<()> {
     let mut c = calm(pages::CONTROLLER, blocks, 1, 2);
     c.generation = generation;
@@ -502,18 +445,18 @@ fn old_runs(rt: &impl Print) -> io::Result<()> {
         calm(pages::CONTROLLER, 3, 0, 1),
     )?;
     let mut c = calm(pages::HOST, 1, 0, 2);
-    c.captured = 1;
+    c.captured = Some(1);
     c.then = 4;
     run(rt, "old drive, 07h grows from 1 to 4:", c)?;
     c.then = 5;
     run(rt, "old drive, 07h grows from 1 to 5, room for 4:", c)?;
     let mut d = calm(pages::HOST, 2, 0, 2);
-    d.dropped = 1;
+    d.dropped = Some(1);
     run(rt, "old drive, 07h dropped before its only chunk:", d)?;
     let mut e = calm(pages::CONTROLLER, 2, 0, 2);
-    e.cleared = 1;
+    e.cleared = Some(1);
     run(rt, "old drive, 08h cleared after the header:", e)?;
-    e.captured = 2;
+    e.captured = Some(2);
     run(rt, "old drive, 08h cleared and captured again:", e)
 }
 
@@ -530,8 +473,8 @@ fn host_runs(rt: &impl Print) -> io::Result<()> {
     )?;
     host(rt, "07h shrinks from 4 to 0:", 0, 4, 1, 0)?;
     let mut c = calm(pages::HOST, 3, 2, 3);
-    c.captured = 3;
-    c.again = 6;
+    c.captured = Some(3);
+    c.again = Some(6);
     c.then = 3;
     run(rt, "07h captured before each of two closing headers:", c)
 }
@@ -539,7 +482,7 @@ fn host_runs(rt: &impl Print) -> io::Result<()> {
 // 07h, dropped before a command.
 fn emptied(rt: &impl Print, label: &str, case: Case, dropped: u32) -> io::Result<()> {
     let mut c = case;
-    c.dropped = dropped;
+    c.dropped = Some(dropped);
     run(rt, label, c)
 }
 
@@ -564,7 +507,7 @@ fn drop_runs(rt: &impl Print) -> io::Result<()> {
     c.top = 3;
     emptied(rt, "07h dropped, no block in area 1:", c, 1)?;
     let mut d = two;
-    d.captured = 1;
+    d.captured = Some(1);
     emptied(
         rt,
         "07h dropped and captured again with the same areas:",
@@ -581,22 +524,29 @@ fn controller_runs(rt: &impl Print) -> io::Result<()> {
         "08h cleared and captured again, generation 255 to 0:",
         255,
         3,
-        4,
-        4,
+        Some(4),
+        Some(4),
     )?;
     controller(
         rt,
         "08h cleared, a chunk refused, then captured:",
         0,
         3,
-        1,
-        3,
+        Some(1),
+        Some(3),
     )
 }
 
 // What happens after the last check, before the acknowledgement.
 fn late_runs(rt: &impl Print) -> io::Result<()> {
-    controller(rt, "08h captured after the last check:", 0, 1, NEVER, 3)?;
+    controller(
+        rt,
+        "08h captured after the last check:",
+        0,
+        1,
+        None,
+        Some(3),
+    )?;
     acknowledged(
         rt,
         "08h acknowledged by another after the last check:",
@@ -609,15 +559,15 @@ fn late_runs(rt: &impl Print) -> io::Result<()> {
         "08h acknowledged and captured after the last check:",
         0,
         1,
-        3,
-        3,
+        Some(3),
+        Some(3),
     )
 }
 
 // Many captures in one attempt of 07h, and drops among them.
 fn crowded_runs(rt: &impl Print) -> io::Result<()> {
     let mut c = calm(pages::HOST, 2, 1, 301);
-    c.captured = 2;
+    c.captured = Some(2);
     c.times = 255;
     run(rt, "07h, 255 captures in one attempt:", c)?;
     emptied(rt, "07h, a drop and 255 captures in one attempt:", c, 2)?;
@@ -633,7 +583,7 @@ fn crowded_runs(rt: &impl Print) -> io::Result<()> {
 fn unread(rt: &impl Print, label: &str, times: u32) -> io::Result<()> {
     let mut c = calm(pages::CONTROLLER, 1, 1, 301);
     c.then = 1;
-    c.captured = 3;
+    c.captured = Some(3);
     c.times = times;
     run(rt, label, c)
 }
@@ -641,8 +591,8 @@ fn unread(rt: &impl Print, label: &str, times: u32) -> io::Result<()> {
 // More captures in a run than a generation counts.
 fn many_runs(rt: &impl Print) -> io::Result<()> {
     let mut c = calm(pages::HOST, 2, 1, 301);
-    c.captured = 3;
-    c.again = 6;
+    c.captured = Some(3);
+    c.again = Some(6);
     c.times = 150;
     run(rt, "07h, 150 captures in each of two attempts:", c)?;
     unread(rt, "08h, 256 captures after the last check:", 256)?;

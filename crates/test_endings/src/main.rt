@@ -3,18 +3,20 @@
 // copy holds. The file stdout beside src/ has what the papers say.
 #![tactic(auto)]
 
-use collection::{Collection, Next, Stepped};
+use collection::{Collection, Completion, Next, Stepped};
 use header::{Fault, Fields};
 use pages::Caps;
 use phases::{Attempt, Phase};
 use plans::Plan;
 use std::io;
 
-// What a command comes back with: a refusal, or a header with its page, the last block of area 1, TCDA and the generation.
-#[derive(Drop)]
-enum Completion {
-    Refused,
-    Header(u8, u32, u8, u8),
+// A header: its page, the last block of area 1, TCDA and the generation.
+#[derive(Clone, Copy)]
+struct Heading {
+    page: u8,
+    b: u32,
+    tcda: u8,
+    generation: u8,
 }
 
 // A page's area 1 in chunks of two blocks, into a copy of four.
@@ -36,19 +38,29 @@ fn plan(page: u8, attempts: u32) -> Plan {
     }
 }
 
-// A header whose area 1 ends at block `b`.
-fn heading(page: u8, b: u32, tcda: u8, generation: u8) -> [u8; 512] {
-    let last = [b, 9, 9, 0];
-    header::write(Fields {
-        page,
-        oui: 0x123456,
-        last,
-        scope: 1,
-        hostgeneration: generation,
-        tcda,
-        controllergeneration: generation,
-        reason: [3; 128],
-    })
+impl Heading {
+    fn new(page: u8, b: u32, tcda: u8, generation: u8) -> Heading {
+        Heading {
+            page,
+            b,
+            tcda,
+            generation,
+        }
+    }
+
+    // The other tests make headers of their own: a crate for one function of the tests is no plainer.
+    fn bytes(self) -> [u8; 512] {
+        header::write(Fields {
+            page: self.page,
+            oui: 0x123456,
+            last: [self.b, 9, 9, 0],
+            scope: 1,
+            hostgeneration: self.generation,
+            tcda: self.tcda,
+            controllergeneration: self.generation,
+            reason: [3; 128],
+        })
+    }
 }
 
 // Three blocks as `collected` reads them, and zeros in the fourth.
@@ -71,18 +83,18 @@ fn copy_is(rt: &impl Print, copy: &[u8]) -> io::Result<()> {
     }
 }
 
-// What is at fault in a header, if anything is.
-fn show_fault(rt: &impl Print, fault: Fault) -> io::Result<()> {
+// What is at fault in a header, if anything is. A `Display` of `Fault` would stand in `header`, for this test alone.
+fn show_fault(rt: &impl Print, fault: Option<Fault>) -> io::Result<()> {
     match fault {
-        Fault::None => Ok(()),
-        Fault::Length => print!(rt; " length"),
-        Fault::Identifier => print!(rt; " identifier"),
-        Fault::Area2 => print!(rt; " area 2"),
-        Fault::Area3 => print!(rt; " area 3"),
-        Fault::Area4 => print!(rt; " area 4"),
-        Fault::Scope => print!(rt; " scope"),
-        Fault::Available => print!(rt; " TCDA"),
-        Fault::Empty => print!(rt; " available but empty"),
+        None => Ok(()),
+        Some(Fault::Length) => print!(rt; " length"),
+        Some(Fault::Identifier) => print!(rt; " identifier"),
+        Some(Fault::Area2) => print!(rt; " area 2"),
+        Some(Fault::Area3) => print!(rt; " area 3"),
+        Some(Fault::Area4) => print!(rt; " area 4"),
+        Some(Fault::Scope) => print!(rt; " scope"),
+        Some(Fault::Available) => print!(rt; " TCDA"),
+        Some(Fault::Empty) => print!(rt; " available but empty"),
     }
 }
 
@@ -90,23 +102,21 @@ fn show_next(rt: &impl Print, next: Next) -> io::Result<()> {
     match next {
         Next::Send(_) => print!(rt; "sent"),
         Next::End(e) => {
-            let ending = e.ending;
-            print!(rt; "ended {}", endings::number(ending))?;
-            show_fault(rt, endings::fault(ending))?;
-            if endings::newer(ending) {
+            print!(rt; "ended {}", e.ending.number())?;
+            show_fault(rt, e.ending.fault())?;
+            if e.ending.newer() {
                 print!(rt; " newer")?;
             }
             print!(rt; ", commands {}", e.count)
         }
-        Next::Refuse(answer) => print!(rt; "refused {answer}"),
+        Next::Refuse(refusal) => print!(rt; "refused {}", refusal.number()),
     }
 }
 
 // What followed, and the copy; then the state.
 fn show(rt: &impl Print, label: &str, x: Stepped, copy: &[u8]) -> io::Result<Collection> {
-    let next = x.next;
     print!(rt; "{label}: ")?;
-    show_next(rt, next)?;
+    show_next(rt, x.next)?;
     print!(rt; ", copy ")?;
     copy_is(rt, copy)?;
     println!(rt;)?;
@@ -122,49 +132,35 @@ fn tried(
     data: &[u8],
     copy: &mut [u8],
 ) -> io::Result<Collection> {
-    let x = s.step(ok, data, copy);
-    show(rt, label, x, copy)
+    show(rt, label, s.step(Completion { ok, data }, copy), copy)
 }
 
 fn began(p: Plan) -> Collection {
-    let x = beginnings::setup(p);
-    x.state
+    beginnings::setup(p).state
 }
 
 fn stepped(s: Collection, ok: bool, data: &[u8], copy: &mut [u8]) -> Collection {
-    let x = s.step(ok, data, copy);
-    x.state
+    s.step(Completion { ok, data }, copy).state
 }
 
-// One step by a completion of a header, shown with the copy after it.
+// One step by a completion, a header or a refusal, shown with the copy after it.
 fn completed(
     rt: &impl Print,
     label: &str,
     s: Collection,
-    c: Completion,
+    c: Option<Heading>,
     copy: &mut [u8],
 ) -> io::Result<()> {
     match c {
-        Completion::Refused => {
-            tried(rt, label, s, false, b"", copy)?;
-        }
-        Completion::Header(page, b, tcda, generation) => {
-            tried(
-                rt,
-                label,
-                s,
-                true,
-                &heading(page, b, tcda, generation),
-                copy,
-            )?;
-        }
-    }
+        Some(head) => tried(rt, label, s, true, &head.bytes(), copy)?,
+        None => tried(rt, label, s, false, b"", copy)?,
+    };
     Ok(())
 }
 
 // The state that awaits the last chunk of an area of three blocks, generation 5.
 fn opened(p: Plan, copy: &mut [u8]) -> Collection {
-    let head = heading(p.page, 3, 1, 5);
+    let head = Heading::new(p.page, 3, 1, 5).bytes();
     let a = stepped(began(p), true, &head, copy);
     stepped(a, true, &[1u8; 1024], copy)
 }
@@ -175,10 +171,8 @@ fn collected(p: Plan, copy: &mut [u8]) -> Collection {
 }
 
 fn setup(rt: &impl Print, label: &str, p: Plan) -> io::Result<()> {
-    let x = beginnings::setup(p);
-    let next = x.next;
     print!(rt; "{label}: ")?;
-    show_next(rt, next)?;
+    show_next(rt, beginnings::setup(p).next)?;
     println!(rt;)
 }
 
@@ -197,41 +191,47 @@ fn setups(rt: &impl Print) -> io::Result<()> {
     setup(rt, "a copy of no bytes", q)
 }
 
-fn first(rt: &impl Print, label: &str, c: Completion) -> io::Result<()> {
+fn first(rt: &impl Print, label: &str, c: Option<Heading>) -> io::Result<()> {
     let mut copy = [9u8; 2048];
     completed(rt, label, began(plan(0x08, 2)), c, &mut copy)
 }
 
 fn firsts(rt: &impl Print) -> io::Result<()> {
-    first(rt, "first header refused", Completion::Refused)?;
+    first(rt, "first header refused", None)?;
     first(
         rt,
         "of another page and TCDA 0",
-        Completion::Header(0x07, 5, 0, 5),
+        Some(Heading::new(0x07, 5, 0, 5)),
     )?;
     first(
         rt,
         "area 1 past area 2, TCDA 2",
-        Completion::Header(0x08, 10, 2, 5),
+        Some(Heading::new(0x08, 10, 2, 5)),
     )?;
-    first(rt, "five blocks, TCDA 2", Completion::Header(0x08, 5, 2, 5))?;
+    first(rt, "five blocks, TCDA 2", Some(Heading::new(0x08, 5, 2, 5)))?;
     first(
         rt,
         "TCDA 0 and five blocks",
-        Completion::Header(0x08, 5, 0, 5),
+        Some(Heading::new(0x08, 5, 0, 5)),
     )?;
-    first(rt, "five blocks", Completion::Header(0x08, 5, 1, 5))?;
-    first(rt, "four blocks", Completion::Header(0x08, 4, 1, 5))
+    first(rt, "five blocks", Some(Heading::new(0x08, 5, 1, 5)))?;
+    first(rt, "four blocks", Some(Heading::new(0x08, 4, 1, 5)))
 }
 
-fn closing(rt: &impl Print, label: &str, page: u8, attempts: u32, c: Completion) -> io::Result<()> {
+fn closing(
+    rt: &impl Print,
+    label: &str,
+    page: u8,
+    attempts: u32,
+    c: Option<Heading>,
+) -> io::Result<()> {
     let mut copy = [9u8; 2048];
     let s = collected(plan(page, attempts), &mut copy);
     completed(rt, label, s, c, &mut copy)
 }
 
 // The same after a refused chunk.
-fn closing_broken(rt: &impl Print, label: &str, c: Completion) -> io::Result<()> {
+fn closing_broken(rt: &impl Print, label: &str, c: Option<Heading>) -> io::Result<()> {
     let mut copy = [9u8; 2048];
     let s = opened(plan(0x08, 2), &mut copy);
     let t = stepped(s, false, b"", &mut copy);
@@ -244,22 +244,22 @@ fn closings(rt: &impl Print) -> io::Result<()> {
         "closing header on 07h",
         0x07,
         1,
-        Completion::Header(0x07, 3, 0, 5),
+        Some(Heading::new(0x07, 3, 0, 5)),
     )?;
-    closing(rt, "closing header refused", 0x08, 2, Completion::Refused)?;
+    closing(rt, "closing header refused", 0x08, 2, None)?;
     closing(
         rt,
         "of another page and TCDA 0",
         0x08,
         2,
-        Completion::Header(0x07, 3, 0, 5),
+        Some(Heading::new(0x07, 3, 0, 5)),
     )?;
     closing(
         rt,
         "TCDA 0 and the last attempt's mismatch",
         0x08,
         1,
-        Completion::Header(0x08, 3, 0, 6),
+        Some(Heading::new(0x08, 3, 0, 6)),
     )?;
     Ok(())
 }
@@ -271,19 +271,19 @@ fn bad_closings(rt: &impl Print) -> io::Result<()> {
         "TCDA 2 on 07h, else a match",
         0x07,
         1,
-        Completion::Header(0x07, 3, 2, 5),
+        Some(Heading::new(0x07, 3, 2, 5)),
     )?;
     closing(
         rt,
         "area 1 past area 2, the last attempt's mismatch",
         0x08,
         1,
-        Completion::Header(0x08, 10, 1, 6),
+        Some(Heading::new(0x08, 10, 1, 6)),
     )?;
     closing_broken(
         rt,
         "TCDA 2 after a refused chunk",
-        Completion::Header(0x08, 3, 2, 5),
+        Some(Heading::new(0x08, 3, 2, 5)),
     )?;
     Ok(())
 }
@@ -294,32 +294,32 @@ fn matches(rt: &impl Print) -> io::Result<()> {
         "the last attempt's mismatch, five blocks",
         0x08,
         1,
-        Completion::Header(0x08, 5, 1, 6),
+        Some(Heading::new(0x08, 5, 1, 6)),
     )?;
     closing(
         rt,
         "a mismatch, five blocks",
         0x08,
         2,
-        Completion::Header(0x08, 5, 1, 6),
+        Some(Heading::new(0x08, 5, 1, 6)),
     )?;
     closing(
         rt,
         "a mismatch, four blocks",
         0x08,
         2,
-        Completion::Header(0x08, 4, 1, 6),
+        Some(Heading::new(0x08, 4, 1, 6)),
     )?;
-    closing(rt, "a match", 0x08, 2, Completion::Header(0x08, 3, 1, 5))?;
+    closing(rt, "a match", 0x08, 2, Some(Heading::new(0x08, 3, 1, 5)))?;
     closing_broken(
         rt,
         "a match after a refused chunk",
-        Completion::Header(0x08, 3, 1, 5),
+        Some(Heading::new(0x08, 3, 1, 5)),
     )?;
     closing_broken(
         rt,
         "a mismatch after a refused chunk",
-        Completion::Header(0x08, 3, 1, 6),
+        Some(Heading::new(0x08, 3, 1, 6)),
     )?;
     Ok(())
 }
@@ -331,57 +331,60 @@ fn other_blocks(rt: &impl Print) -> io::Result<()> {
         "its generation and five blocks",
         0x08,
         2,
-        Completion::Header(0x08, 5, 1, 5),
+        Some(Heading::new(0x08, 5, 1, 5)),
     )?;
     closing(
         rt,
         "its generation and four blocks",
         0x08,
         2,
-        Completion::Header(0x08, 4, 1, 5),
+        Some(Heading::new(0x08, 4, 1, 5)),
     )?;
     closing(
         rt,
         "its generation and no blocks on 07h, the last attempt",
         0x07,
         1,
-        Completion::Header(0x07, 0, 0, 5),
+        Some(Heading::new(0x07, 0, 0, 5)),
     )?;
     closing_broken(
         rt,
         "its generation and four blocks after a refused chunk",
-        Completion::Header(0x08, 4, 1, 5),
+        Some(Heading::new(0x08, 4, 1, 5)),
     )?;
     Ok(())
 }
 
-fn acknowledged(rt: &impl Print, label: &str, c: Completion) -> io::Result<()> {
+fn acknowledged(rt: &impl Print, label: &str, c: Option<Heading>) -> io::Result<()> {
     let mut copy = [9u8; 2048];
     let s = collected(plan(0x08, 2), &mut copy);
-    let t = stepped(s, true, &heading(0x08, 3, 1, 5), &mut copy);
+    let t = stepped(s, true, &Heading::new(0x08, 3, 1, 5).bytes(), &mut copy);
     completed(rt, label, t, c, &mut copy)
 }
 
 fn acknowledgements(rt: &impl Print) -> io::Result<()> {
-    acknowledged(rt, "acknowledged", Completion::Header(0x08, 3, 1, 5))?;
+    acknowledged(rt, "acknowledged", Some(Heading::new(0x08, 3, 1, 5)))?;
     acknowledged(
         rt,
         "acknowledged, another page's bad header",
-        Completion::Header(0x07, 5, 0, 5),
+        Some(Heading::new(0x07, 5, 0, 5)),
     )?;
     acknowledged(
         rt,
         "acknowledged, a newer generation",
-        Completion::Header(0x08, 3, 1, 6),
+        Some(Heading::new(0x08, 3, 1, 6)),
     )?;
-    acknowledged(rt, "acknowledgement refused", Completion::Refused)
+    acknowledged(rt, "acknowledgement refused", None)
 }
 
 // A step that is lent another copy than the setup's, which stays.
 fn lent_short(rt: &impl Print, s: Collection, head: &[u8], copy: &[u8]) -> io::Result<Collection> {
     let mut short = [9u8; 1536];
-    let x = s.step(true, head, &mut short);
-    show(rt, "a shorter copy", x, copy)
+    let c = Completion {
+        ok: true,
+        data: head,
+    };
+    show(rt, "a shorter copy", s.step(c, &mut short), copy)
 }
 
 // Data of a wrong length, and data with a refusal.
@@ -394,7 +397,7 @@ fn lent_wrong(rt: &impl Print, head: &[u8], copy: &mut [u8]) -> io::Result<Colle
 // 15 leaves the state: the step after it goes on as if it had not been.
 fn unfit(rt: &impl Print) -> io::Result<()> {
     let mut copy = [9u8; 2048];
-    let head = heading(0x08, 3, 1, 5);
+    let head = Heading::new(0x08, 3, 1, 5).bytes();
     let a = lent_wrong(rt, &head, &mut copy)?;
     let b = lent_short(rt, a, &head, &copy)?;
     tried(rt, "then the header", b, true, &head, &mut copy)?;
@@ -403,14 +406,13 @@ fn unfit(rt: &impl Print) -> io::Result<()> {
 
 // The third attempt of two.
 fn third(phase: Phase) -> Collection {
-    let last = [3, 9, 9, 0];
     Collection {
         plan: plan(0x08, 2),
         phase,
         attempt: Attempt {
             number: 3,
             generation: 5,
-            last,
+            last: [3, 9, 9, 0],
         },
         count: 4,
     }
@@ -419,14 +421,13 @@ fn third(phase: Phase) -> Collection {
 // The last attempt of 65,535, with a count of commands.
 fn counted(rt: &impl Print, label: &str, count: u64) -> io::Result<()> {
     let mut copy = [9u8; 2048];
-    let last = [3, 9, 9, 0];
     let s = Collection {
         plan: plan(0x08, 65535),
         phase: Phase::Close(false),
         attempt: Attempt {
             number: 65535,
             generation: 5,
-            last,
+            last: [3, 9, 9, 0],
         },
         count,
     };

@@ -2,10 +2,7 @@
 // collection give it, and the ending; then the finished copy's blocks through a reader. The file stdout beside src/ has what the paper says.
 #![tactic(auto)]
 
-ghost use Rattle.std.specs.Prelude.{◌≡◌, length};
-ghost use Rattle.reader.specs.Reader.{more_at, place_at};
-
-use collection::{Collection, Next, Stepped};
+use collection::{Collection, Completion, Next, Stepped};
 use header::Fields;
 use pages::Caps;
 use plans::Plan;
@@ -26,9 +23,9 @@ fn follow(rt: &impl Print, next: Next) -> io::Result<()> {
         Next::Send(w) => command(rt, w),
         Next::End(e) => {
             let ending = e.ending;
-            print!(rt; "ending {}, commands {}", endings::number(ending), e.count)
+            print!(rt; "ending {}, commands {}", ending.number(), e.count)
         }
-        Next::Refuse(answer) => print!(rt; "refused {answer}"),
+        Next::Refuse(refusal) => print!(rt; "refused {}", refusal.number()),
     }
 }
 
@@ -58,7 +55,7 @@ fn plan(page: u8) -> Plan {
     }
 }
 
-// A header whose area 1 ends at block `b`.
+// A header whose area 1 ends at block `b`. The other tests make headers of their own: a crate for one function of the tests is no plainer.
 fn heading(page: u8, b: u32) -> [u8; 512] {
     let last = [b, 9, 9, 0];
     header::write(Fields {
@@ -94,58 +91,23 @@ fn seven_blocks() -> [u8; 4096] {
     wanted
 }
 
-// What a reader hands out, in numbers: whether there was a block, its first byte, and the place of the reader after it.
-#[derive(Drop)]
-struct Block {
-    more: bool,
-    first: u8,
-    at: usize,
-}
-
-fn first_of(part: &[u8]) -> u8 {
-    if part.len() == 0 {
-        return 0;
+// The first byte of the block that a reader hands out, or that it is at the end.
+fn shown(rt: &impl Print, block: Option<&[u8]>) -> io::Result<()> {
+    match block.and_then(|b| b.first()) {
+        Some(first) => print!(rt; " {first}"),
+        None => print!(rt; " end"),
     }
-    part[0]
-}
-
-fn read(copy: &[u8], at: usize) -> Block
-    ensures { (result.more ≡ more_at (length copy.now) at) × (result.at ≡ (place_at (length copy.now) at).at) }
-{
-    let handed = reader::next(Reader { copy, at });
-    let first = first_of(handed.part);
-    Block {
-        more: handed.more,
-        first,
-        at: handed.reader.at,
-    }
-}
-
-// The first byte of the block that a reader at a place hands out, or that it is at the end; then its place after that.
-fn shown(rt: &impl Print, copy: &[u8], at: usize) -> io::Result<usize> {
-    let b = read(copy, at);
-    if b.more {
-        print!(rt; " {}", b.first)?;
-    } else {
-        print!(rt; " end")?;
-    }
-    Ok(b.at)
-}
-
-fn four(rt: &impl Print, copy: &[u8], at: usize) -> io::Result<usize> {
-    let a = shown(rt, copy, at)?;
-    let b = shown(rt, copy, a)?;
-    let c = shown(rt, copy, b)?;
-    shown(rt, copy, c)
 }
 
 // The eight blocks of a copy, as a reader hands them out, and twice the end.
 fn blocks(rt: &impl Print, copy: &[u8]) -> io::Result<()> {
+    let mut reader = Reader::start(copy);
     print!(rt; "blocks")?;
-    let half = four(rt, copy, 0)?;
-    let end = four(rt, copy, half)?;
-    let still = shown(rt, copy, end)?;
-    shown(rt, copy, still)?;
+    for block in reader.by_ref() {
+        shown(rt, Some(block))?;
+    }
+    shown(rt, reader.next())?;
+    shown(rt, reader.next())?;
     println!(rt;)
 }
 
@@ -155,7 +117,7 @@ fn begun(rt: &impl Print, page: u8) -> io::Result<Collection> {
 }
 
 fn next(rt: &impl Print, s: Collection, data: &[u8], copy: &mut [u8]) -> io::Result<Collection> {
-    show(rt, s.step(true, data, copy))
+    show(rt, s.step(Completion { ok: true, data }, copy))
 }
 
 fn headed(

@@ -2,23 +2,21 @@
 // plan's refusals (Q-4), run by the compiled code. The file stdout beside src/ has what the papers say of each.
 #![tactic(auto)]
 
-use completions::Planned;
+use completions::{NoPlan, Planned};
 use header::Fields;
 use pages::Caps;
 use std::io;
-use words::Words;
+use words::{Ask, Words};
 
 fn class(rt: &impl Print, identifier: u8) -> io::Result<()> {
-    let class = answers::class(identifier);
+    let class = answers::class(identifier).number();
     println!(rt; "{identifier:02x} {class}")
 }
 
 fn status(rt: &impl Print, answer: u8) -> io::Result<()> {
-    let s = answers::status_of(answer);
-    if s.given {
-        println!(rt; "{answer} {} {:02x}", s.sct, s.sc)
-    } else {
-        println!(rt; "{answer} none")
+    match answers::status_of(answer) {
+        Some(s) => println!(rt; "{answer} {} {:02x}", s.sct, s.sc),
+        None => println!(rt; "{answer} none"),
     }
 }
 
@@ -31,9 +29,21 @@ fn build(
     offset: u32,
     blocks: u32,
 ) -> io::Result<()> {
-    let b = words::build(page, create, mcda, rae, offset, blocks);
-    let w = b.words;
-    print!(rt; "{} {:08x} {:08x}", b.answer, w.cdw10, w.cdw11)?;
+    let asked = Ask {
+        create,
+        mcda,
+        rae,
+        offset,
+        blocks,
+    };
+    let built = words::build(page, asked);
+    let w = built.unwrap_or(words::no_words());
+    print!(rt;
+        "{} {:08x} {:08x}",
+        answers::number(built),
+        w.cdw10,
+        w.cdw11
+    )?;
     println!(rt; " {:08x} {:08x} {:08x}", w.cdw12, w.cdw13, w.cdw14)
 }
 
@@ -108,6 +118,7 @@ fn rule(rt: &impl Print, da4s: bool, a: [u32; 4]) -> io::Result<()> {
     }
 }
 
+// The other tests make headers of their own: a crate for one function of the tests is no plainer.
 fn sample(page: u8) -> [u8; 512] {
     let last = [2, 2, 5, 9];
     header::write(Fields {
@@ -135,7 +146,7 @@ fn fields(rt: &impl Print, f: Fields) -> io::Result<()> {
 }
 
 // A plan from a header, of the greatest area that there is, a block a command, with the largest room.
-fn plan_of(page: u8, da4s: bool, h: &[u8]) -> Planned {
+fn plan_of(page: u8, da4s: bool, h: &[u8]) -> Result<Planned, NoPlan> {
     let caps = Caps {
         extended: true,
         telemetry: true,
@@ -145,7 +156,7 @@ fn plan_of(page: u8, da4s: bool, h: &[u8]) -> Planned {
     };
     completions::plan(
         page,
-        choices::pick_u8(da4s, 4, 3),
+        choices::pick(da4s, 4, 3),
         caps,
         1,
         plans::MOST_ROOM,
@@ -154,15 +165,12 @@ fn plan_of(page: u8, da4s: bool, h: &[u8]) -> Planned {
 }
 
 fn check(rt: &impl Print, page: u8, da4s: bool, h: &[u8]) -> io::Result<()> {
-    let x = plan_of(page, da4s, h);
-    let fault = x.fault;
-    let f = x.fields;
-    print!(rt;
-        "{} field {}",
-        x.answer,
-        shared_layouts::fault_number(fault)
-    )?;
-    print!(rt; " at {} chunks {}", header::byte_of(page, fault), x.chunks)?;
+    let (answer, fault, f, chunks) = match plan_of(page, da4s, h) {
+        Ok(x) => (answers::SUCCESS, None, x.fields, x.chunks),
+        Err(why) => (why.number(), why.fault(), Fields::default(), 0),
+    };
+    print!(rt; "{answer} field {}", shared_layouts::fault_number(fault))?;
+    print!(rt; " at {} chunks {chunks}", header::byte_of(page, fault))?;
     fields(rt, f)
 }
 
@@ -170,62 +178,43 @@ fn check_whole(rt: &impl Print, page: u8, da4s: bool, h: &[u8; 512]) -> io::Resu
     check(rt, page, da4s, h)
 }
 
-fn check_part(rt: &impl Print, page: u8, h: &[u8], end: usize) -> io::Result<()> {
-    if end <= h.len() {
-        check(rt, page, true, &h[0..end])?;
-    }
-    Ok(())
-}
-
 // The header's first bytes, of which it may have one more than 512.
 fn check_cut(rt: &impl Print, page: u8, h: &[u8; 512], bytes: usize) -> io::Result<()> {
     let mut longer = [0u8; 513];
     copies::put(h, &mut longer, 0);
-    check_part(rt, page, &longer, bytes)
+    check(rt, page, true, longer.get(..bytes).unwrap_or(h))
+}
+
+// One byte of a header put otherwise.
+fn spoil(h: &mut [u8; 512], at: usize, byte: u8) {
+    if at < h.len() {
+        h[at] = byte;
+    }
 }
 
 fn check_with(rt: &impl Print, page: u8, at: usize, byte: u8) -> io::Result<()> {
     let mut h = sample(page);
-    if at < 512 {
-        h[at] = byte;
-    }
+    spoil(&mut h, at, byte);
     check_whole(rt, page, true, &h)
 }
 
 fn identifiers(rt: &impl Print) -> io::Result<()> {
     println!(rt; "classes, by identifier")?;
-    class(rt, 0x00)?;
-    class(rt, 0x0d)?;
-    class(rt, 0x0e)?;
-    class(rt, 0x0f)?;
-    class(rt, 0x18)?;
-    class(rt, 0x19)?;
-    class(rt, 0x1a)?;
-    class(rt, 0x23)?;
-    class(rt, 0x24)?;
-    class(rt, 0x25)?;
-    class(rt, 0x26)?;
-    class(rt, 0x6f)?;
-    class(rt, 0x70)?;
-    class(rt, 0x73)?;
-    class(rt, 0x74)?;
-    class(rt, 0x7e)?;
-    class(rt, 0x7f)?;
-    class(rt, 0x81)?;
-    class(rt, 0x82)?;
-    class(rt, 0xbf)?;
-    class(rt, 0xc0)?;
-    class(rt, 0xff)
+    for identifier in [
+        0x00u8, 0x0d, 0x0e, 0x0f, 0x18, 0x19, 0x1a, 0x23, 0x24, 0x25, 0x26, 0x6f, 0x70, 0x73, 0x74,
+        0x7e, 0x7f, 0x81, 0x82, 0xbf, 0xc0, 0xff,
+    ] {
+        class(rt, identifier)?;
+    }
+    Ok(())
 }
 
 fn statuses(rt: &impl Print) -> io::Result<()> {
     println!(rt; "statuses, by answer")?;
-    status(rt, 0)?;
-    status(rt, 1)?;
-    status(rt, 2)?;
-    status(rt, 3)?;
-    status(rt, 15)?;
-    status(rt, 255)
+    for answer in [0u8, 1, 2, 3, 15, 255] {
+        status(rt, answer)?;
+    }
+    Ok(())
 }
 
 fn built(rt: &impl Print) -> io::Result<()> {
@@ -265,11 +254,9 @@ fn asked(rt: &impl Print) -> io::Result<()> {
 
 fn trimmed(rt: &impl Print) -> io::Result<()> {
     println!(rt; "candidate (2,2,5,9), DA4S, ETDAS, MCDAS 1: MCDA 2, 0, 1, 3, 4")?;
-    trim(rt, true, true, true, 2, [2, 2, 5, 9])?;
-    trim(rt, true, true, true, 0, [2, 2, 5, 9])?;
-    trim(rt, true, true, true, 1, [2, 2, 5, 9])?;
-    trim(rt, true, true, true, 3, [2, 2, 5, 9])?;
-    trim(rt, true, true, true, 4, [2, 2, 5, 9])?;
+    for mcda in [2u32, 0, 1, 3, 4] {
+        trim(rt, true, true, true, mcda, [2, 2, 5, 9])?;
+    }
     println!(rt; "the same with MCDAS 0 and MCDA 2; ETDAS 0 and MCDA 0, 4; DA4S 0 and MCDA 0, 2")?;
     trim(rt, true, true, false, 2, [2, 2, 5, 9])?;
     trim(rt, true, false, true, 0, [2, 2, 5, 9])?;
@@ -294,13 +281,17 @@ fn rules(rt: &impl Print) -> io::Result<()> {
     println!(rt;
         "the rule: in order; a1 > a2; a2 > a3; a3 over its limit; a4 < a3; a4 over its limit; a4 alone; a4 without DA4S"
     )?;
-    rule(rt, true, [2, 2, 5, 9])?;
-    rule(rt, true, [3, 2, 5, 9])?;
-    rule(rt, true, [2, 6, 5, 9])?;
-    rule(rt, true, [2, 2, 65536, 65536])?;
-    rule(rt, true, [2, 2, 5, 4])?;
-    rule(rt, true, [2, 2, 5, 1048577])?;
-    rule(rt, true, [0, 0, 0, 1])?;
+    for a in [
+        [2u32, 2, 5, 9],
+        [3, 2, 5, 9],
+        [2, 6, 5, 9],
+        [2, 2, 65536, 65536],
+        [2, 2, 5, 4],
+        [2, 2, 5, 1048577],
+        [0, 0, 0, 1],
+    ] {
+        rule(rt, true, a)?;
+    }
     rule(rt, false, [2, 2, 5, 9])?;
     println!(rt; "and at its limits, with DA4S and without")?;
     rule(rt, true, [65535, 65535, 65535, 1048576])?;
@@ -328,9 +319,7 @@ fn good_headers(rt: &impl Print) -> io::Result<()> {
 fn check_bare(rt: &impl Print, page: u8, da4s: bool, at: usize, byte: u8) -> io::Result<()> {
     let mut h = [0u8; 512];
     h[0] = page;
-    if at < 512 {
-        h[at] = byte;
-    }
+    spoil(&mut h, at, byte);
     check_whole(rt, page, da4s, &h)
 }
 
@@ -339,9 +328,9 @@ fn bad_lengths(rt: &impl Print) -> io::Result<()> {
     println!(rt;
         "bad: lengths 0, 511 and 513; 513 asked for as 08h, and as 09h, which no plan has"
     )?;
-    check_cut(rt, 0x07, &host, 0)?;
-    check_cut(rt, 0x07, &host, 511)?;
-    check_cut(rt, 0x07, &host, 513)?;
+    for bytes in [0usize, 511, 513] {
+        check_cut(rt, 0x07, &host, bytes)?;
+    }
     check_cut(rt, 0x08, &host, 513)?;
     check_cut(rt, 0x09, &host, 513)
 }
@@ -373,7 +362,7 @@ fn bad_headers(rt: &impl Print) -> io::Result<()> {
     check_with(rt, 0x08, 382, 2)
 }
 
-// Whether a fault, by its number, is one of two.
+// Whether a fault is one of two. A fault is its number here, since the rows print it and go through all eight in order.
 fn has(i: u8, j: u8, fault: u8) -> bool {
     (i == fault) | (j == fault)
 }
@@ -382,12 +371,12 @@ fn has(i: u8, j: u8, fault: u8) -> bool {
 // are (2,2,5,9), or zeros; a4 is 0 without DA4S.
 fn spoilt_last(da4s: bool, i: u8, j: u8) -> [u32; 4] {
     let none = has(i, j, 8);
-    let plain = choices::pick_u32(none, 0, 2);
-    let a1 = choices::pick_u32(has(i, j, 3), 7, plain);
-    let a2 = choices::pick_u32(has(i, j, 4), 6, plain);
-    let a3 = choices::pick_u32(none, 0, 5);
-    let a4 = choices::pick_u32(da4s & !none, 9, 0);
-    [a1, a2, a3, choices::pick_u32(has(i, j, 5), 1048577, a4)]
+    let plain = choices::pick(none, 0, 2);
+    let a1 = choices::pick(has(i, j, 3), 7, plain);
+    let a2 = choices::pick(has(i, j, 4), 6, plain);
+    let a3 = choices::pick(none, 0, 5);
+    let a4 = choices::pick(da4s & !none, 9, 0);
+    [a1, a2, a3, choices::pick(has(i, j, 5), 1048577, a4)]
 }
 
 // A header of the page with the two faults but for the length, which is not made here.
@@ -397,62 +386,47 @@ fn spoilt(page: u8, da4s: bool, i: u8, j: u8) -> [u8; 512] {
         page,
         oui: 0x123456,
         last,
-        scope: choices::pick_u8(has(i, j, 6), 3, 2),
+        scope: choices::pick(has(i, j, 6), 3, 2),
         hostgeneration: 255,
-        tcda: choices::pick_u8(has(i, j, 7), 2, 1),
+        tcda: choices::pick(has(i, j, 7), 2, 1),
         controllergeneration: 7,
         reason: [3; 128],
     });
-    h[0] = choices::pick_u8(has(i, j, 2), 0x09, page);
+    h[0] = choices::pick(has(i, j, 2), 0x09, page);
     h
 }
 
-// The number of what is found at fault in the first bytes of a header.
-fn found_in(rt: &impl Print, page: u8, da4s: bool, h: &[u8], bytes: usize) -> io::Result<()> {
-    if bytes <= h.len() {
-        let x = plan_of(page, da4s, &h[0..bytes]);
-        let fault = x.fault;
-        print!(rt; " {}", shared_layouts::fault_number(fault))?;
-    }
-    Ok(())
+// The number of what is found at fault in a header.
+fn found_in(rt: &impl Print, page: u8, da4s: bool, h: &[u8]) -> io::Result<()> {
+    let fault = match plan_of(page, da4s, h) {
+        Ok(_) => None,
+        Err(why) => why.fault(),
+    };
+    print!(rt; " {}", shared_layouts::fault_number(fault))
 }
 
 fn pair(rt: &impl Print, page: u8, da4s: bool, bytes: usize, i: u8, j: u8) -> io::Result<()> {
     let mut longer = [0u8; 513];
     copies::put(&spoilt(page, da4s, i, j), &mut longer, 0);
-    found_in(
-        rt,
-        page,
-        da4s,
-        &longer,
-        choices::pick_usize(has(i, j, 1), bytes, 512),
-    )
+    let end = choices::pick(has(i, j, 1), bytes, 512);
+    found_in(rt, page, da4s, longer.get(..end).unwrap_or(&longer))
 }
 
 // A fault beside each of the eight.
 fn row(rt: &impl Print, page: u8, da4s: bool, bytes: usize, i: u8) -> io::Result<()> {
     print!(rt; "{i}:")?;
-    pair(rt, page, da4s, bytes, i, 1)?;
-    pair(rt, page, da4s, bytes, i, 2)?;
-    pair(rt, page, da4s, bytes, i, 3)?;
-    pair(rt, page, da4s, bytes, i, 4)?;
-    pair(rt, page, da4s, bytes, i, 5)?;
-    pair(rt, page, da4s, bytes, i, 6)?;
-    pair(rt, page, da4s, bytes, i, 7)?;
-    pair(rt, page, da4s, bytes, i, 8)?;
+    for j in 1..=8u8 {
+        pair(rt, page, da4s, bytes, i, j)?;
+    }
     println!(rt;)
 }
 
 fn pairs(rt: &impl Print, label: &str, page: u8, da4s: bool, bytes: usize) -> io::Result<()> {
     println!(rt; "{label}")?;
-    row(rt, page, da4s, bytes, 1)?;
-    row(rt, page, da4s, bytes, 2)?;
-    row(rt, page, da4s, bytes, 3)?;
-    row(rt, page, da4s, bytes, 4)?;
-    row(rt, page, da4s, bytes, 5)?;
-    row(rt, page, da4s, bytes, 6)?;
-    row(rt, page, da4s, bytes, 7)?;
-    row(rt, page, da4s, bytes, 8)
+    for i in 1..=8u8 {
+        row(rt, page, da4s, bytes, i)?;
+    }
+    Ok(())
 }
 
 fn faults(rt: &impl Print) -> io::Result<()> {
@@ -486,8 +460,10 @@ fn plan(
         etdas,
         mcdas: false,
     };
-    let x = completions::plan(page, area, caps, chunk, room, &h);
-    println!(rt; "{} chunks {}", x.answer, x.chunks)
+    match completions::plan(page, area, caps, chunk, room, &h) {
+        Ok(x) => println!(rt; "{} chunks {}", answers::SUCCESS, x.chunks),
+        Err(why) => println!(rt; "{} chunks 0", why.number()),
+    }
 }
 
 fn chunk_lists(rt: &impl Print) -> io::Result<()> {

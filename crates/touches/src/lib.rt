@@ -20,8 +20,7 @@ pub enum Touch {
 fn zeros_from(copy: &mut [u8], place: usize)
     ensures { copy.new ≡ zeros_from copy.old place }
 {
-    if place <= copy.len() {
-        let left = copy.len() - place;
+    if let Some(left) = copy.len().checked_sub(place) {
         copies::put_zeros(left, copy, place);
     }
 }
@@ -30,8 +29,8 @@ fn zeros_from(copy: &mut [u8], place: usize)
 fn put_from(data: &[u8], from: usize, copy: &mut [u8], place: usize)
     ensures { copy.new ≡ put_at copy.old place (drop from «data».now) }
 {
-    if from <= data.len() {
-        copies::put(&data[from..], copy, place);
+    if let Some(rest) = data.get(from..) {
+        copies::put(rest, copy, place);
     }
 }
 

@@ -13,22 +13,24 @@ use pages::Caps;
 pub fn top(caps: Caps, mcda: u32) -> u32
     ensures { result ≡ top_of caps mcda }
 {
-    let m = choices::pick_u32(caps.da4s & caps.etdas, 4, 3);
-    let cut = choices::smaller_u32(m, mcda);
-    choices::pick_u32(caps.mcdas & (1 <= mcda) & (mcda <= 4), cut, m)
+    let m = choices::pick(caps.da4s & caps.etdas, 4, 3);
+    choices::pick(caps.mcdas & (1 <= mcda) & (mcda <= 4), mcda.min(m), m)
 }
 
+#[tactic(auto, unfolding(crate::specs::Trimming::trimmed_to))]
 fn trimmed_to(da4s: bool, m: u32, a: [u32; 4]) -> [u32; 4]
     ensures { result ≡ trimmed_to da4s m a }
 {
-    let s1 = pages::last_of(choices::smaller_u32(1, m), a);
-    let s2 = pages::last_of(choices::smaller_u32(2, m), a);
-    let s3 = pages::last_of(choices::smaller_u32(3, m), a);
-    let s4 = pages::last_of(choices::smaller_u32(4, m), a);
-    [s1, s2, s3, choices::pick_u32(da4s, s4, 0)]
+    [
+        pages::last_of(m.min(1), a),
+        pages::last_of(m.min(2), a),
+        pages::last_of(m.min(3), a),
+        choices::pick(da4s, pages::last_of(m.min(4), a), 0),
+    ]
 }
 
 // The four last blocks that a capture stores of a candidate's.
+#[tactic(auto, unfolding(crate::specs::Trimming::trim_of))]
 pub fn trim(caps: Caps, mcda: u32, a: [u32; 4]) -> [u32; 4]
     ensures { result ≡ trim_of caps mcda a }
 {

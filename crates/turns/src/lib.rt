@@ -4,8 +4,9 @@
 // (specs/Turns.antt).
 #![tactic(auto)]
 
-ghost use Rattle.std.specs.Prelude.{◌≡◌, ◌-◌, ◌*◌};
+ghost use Rattle.std.specs.Prelude.{false, ◌≡◌, ◌-◌, ◌*◌};
 ghost use Rattle.pages.specs.Pages.{block};
+ghost use Rattle.touches.specs.declared.Touch.TheVariants.{Keep};
 ghost use Rattle.turns.specs.Turns.{opening_of, following_of, left_by, turned, turn_of};
 
 use completions::Seen;
@@ -30,70 +31,72 @@ pub struct Turn {
 fn place_of(at: u32) -> usize
     ensures { result ≡ block * (at - 1) }
 {
-    if 1 <= at {
-        return pages::in_bytes(at - 1);
-    }
-    0
+    pages::in_bytes(at.saturating_sub(1))
 }
 
 // The chunk at block 1, right after the header, or the closing header where the area has none.
 fn opening(p: Plan, last: [u32; 4]) -> Phase
     ensures { result ≡ opening_of p last }
 {
-    phases::phase_after(0, 1, plans::area_last(p, last))
+    Phase::after(0, 1, p.area_last(last))
 }
 
 // What follows the good chunk at a block: one a chunk's blocks on, or the closing header.
 fn following(p: Plan, last: [u32; 4], at: u32) -> Phase
     ensures { result ≡ following_of p last at }
 {
-    phases::phase_after(at, plans::chunk_of(p), plans::area_last(p, last))
+    Phase::after(at, p.chunk_len(), p.area_last(last))
 }
 
 // Success leaves what was collected and zeros after it, every other ending zeros.
 fn left_by(ending: Ending, place: usize) -> Touch
     ensures { result ≡ left_by ending place }
 {
-    let good = endings::number(ending) == answers::SUCCESS;
-    if good { Touch::Tail(place) } else { Touch::All }
-}
-
-fn turn_to(phase: Phase, next: bool, generation: u8, last: [u32; 4], touch: Touch) -> Turn
-    ensures { result ≡ turned phase next generation last touch }
-{
-    Turn {
-        phase,
-        next,
-        generation,
-        last,
-        touch,
+    if matches!(ending, Ending::Success(_)) {
+        Touch::Tail(place)
+    } else {
+        Touch::All
     }
 }
 
-// What a move makes of an attempt, `h` being what was seen of the data.
+// A phase in the same attempt, the copy as it is.
+fn going_on(phase: Phase, a: Attempt) -> Turn
+    ensures { result ≡ turned phase false a.generation a.last Keep }
+{
+    let last = a.last;
+    Turn {
+        phase,
+        next: false,
+        generation: a.generation,
+        last,
+        touch: Touch::Keep,
+    }
+}
+
+// What a move makes of an attempt, `h` being what was seen of the data. It takes a state's parts, as `refusals::refusal` does.
+#[tactic(auto, unfolding(crate::specs::Turns::turn_of))]
 pub fn turn_of(p: Plan, a: Attempt, h: Seen, m: Move) -> Turn
     ensures { result ≡ turn_of p a h m }
 {
-    let held = a.last;
     let shown = h.last;
-    let g = a.generation;
     match m {
-        Move::End(ending, next) => turn_to(
-            Phase::Ended,
+        Move::End(ending, next) => Turn {
             next,
-            g,
-            held,
-            left_by(ending, plans::area_bytes(p, held)),
-        ),
-        Move::Open(next) => turn_to(opening(p, shown), next, h.generation, shown, Touch::Keep),
-        Move::More(at) => turn_to(
-            following(p, held, at),
-            false,
-            g,
-            held,
-            Touch::Place(pages::in_bytes(plans::lead_of(p)), place_of(at)),
-        ),
-        Move::Skip => turn_to(Phase::Close(true), false, g, held, Touch::Keep),
-        Move::Acknowledge => turn_to(Phase::Ack, false, g, held, Touch::Keep),
+            touch: left_by(ending, p.area_bytes(a.last)),
+            ..going_on(Phase::Ended, a)
+        },
+        Move::Open(next) => Turn {
+            phase: opening(p, shown),
+            next,
+            generation: h.generation,
+            last: shown,
+            touch: Touch::Keep,
+        },
+        Move::More(at) => Turn {
+            touch: Touch::Place(pages::in_bytes(p.lead_len()), place_of(at)),
+            ..going_on(following(p, a.last, at), a)
+        },
+        Move::Skip => going_on(Phase::Close(true), a),
+        Move::Acknowledge => going_on(Phase::Ack, a),
     }
 }

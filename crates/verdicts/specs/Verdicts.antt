@@ -1,9 +1,11 @@
 -- Document 01, "Answer numbers" and "Captures": the order of refusals, and when a candidate is broken.
 -- Assumes nothing.
-use Rattle.std.specs.Prelude.{ℕ, ◌*◌, ◌%◌, List, [], ◌∷◌, Bool, not, ◌&&◌, ◌||◌, get_or, ltb, leb, eqb}
+use Rattle.std.specs.Prelude.{ℕ, ◌*◌, ◌%◌, List, [], ◌∷◌, Result, Ok, Err, Bool, not, ◌&&◌, ◌||◌, get_or, ltb, leb, eqb}
 use Rattle.choices.specs.Choice.{pick, first_that}
 use Rattle.choices.specs.Tests.{holds}
-use Rattle.answers.specs.Answers.{success, invalid_field, invalid_log_page, short_buffer, disagree, broken_candidate}
+use Rattle.answers.specs.Answers.{success, invalid_field, invalid_log_page, short_buffer, disagree, broken_candidate, class_told}
+use Rattle.answers.specs.Classes.{class_of}
+use Rattle.answers.specs.declared.Refusal.{Refusal}
 use Rattle.pages.specs.declared.Caps.{Caps}
 use Rattle.pages.specs.Pages.{telemetry_page, block, most3, most4, last_of, size_of, per_page}
 use Rattle.trimming.specs.Trimming.{top_of, trim_of}
@@ -74,3 +76,14 @@ capture_answer r a lent =
     ∷ (not (candidate_ok (last_of (top_of r.caps 0) a) a lent.bytes lent.reason lent.controller && ltb 0 (get_or a 2 0)), broken_candidate)
     ∷ [])
     success
+
+-- ---- the class with an answer
+
+-- the class comes with answer 2 alone
+abbrev pub class_for : ℕ → ℕ → ℕ
+class_for answer page = pick (eqb answer invalid_log_page) (class_of page) 0
+
+-- the class that the code gives with an answer: its refusal's, and 0 without one
+abbrev pub class_in : {A : Type 0} → Result A Refusal → ℕ
+class_in (Ok x) = 0
+class_in (Err r) = class_told r

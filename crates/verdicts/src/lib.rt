@@ -5,8 +5,10 @@
 #![tactic(auto)]
 
 ghost use Rattle.std.specs.Prelude.{◌≡◌};
-ghost use Rattle.verdicts.specs.Verdicts.{command_order, candidate_ok, field_bad, last_after, command_answer, capture_answer};
+ghost use Rattle.answers.specs.Answers.{result_number};
+ghost use Rattle.verdicts.specs.Verdicts.{candidate_ok, field_bad, last_after, command_answer, capture_answer, class_in, class_for};
 
+use answers::Refusal;
 use pages::Caps;
 use records::Record;
 use words::Command;
@@ -22,6 +24,7 @@ pub struct Lent {
 }
 
 // A candidate that is not broken, `kept` being the last block of the area that is kept and `store` the bytes of its store.
+#[tactic(auto, unfolding(crate::specs::Verdicts::candidate_ok, choices::specs::Tests::holds))]
 fn candidate_ok(kept: u32, a: [u32; 4], bytes: usize, reason: usize, store: usize) -> bool
     ensures { result ≡ candidate_ok kept a bytes reason store }
 {
@@ -35,6 +38,7 @@ fn candidate_ok(kept: u32, a: [u32; 4], bytes: usize, reason: usize, store: usiz
 }
 
 // A field of the words that is invalid before the candidate and the page's size are looked at.
+#[tactic(auto, unfolding(crate::specs::Verdicts::field_bad))]
 fn field_bad(caps: Caps, c: Command) -> bool
     ensures { result ≡ field_bad caps c }
 {
@@ -46,84 +50,59 @@ fn field_bad(caps: Caps, c: Command) -> bool
 }
 
 // The last blocks of the page asked for, after the command's capture if it makes one.
+#[tactic(auto, unfolding(crate::specs::Verdicts::last_after))]
 fn last_after(r: Record, c: Command, a: [u32; 4]) -> [u32; 4]
     ensures { result ≡ last_after r c a }
 {
-    let caps = r.caps;
-    let host = r.host;
-    let controller = r.controller;
-    let host_last = host.last;
-    let controller_last = controller.last;
-    let captured = trimming::trim(caps, c.mcda as u32, a);
-    choices::pick_four(
+    let host_last = r.host.last;
+    let controller_last = r.controller.last;
+    let captured = trimming::trim(r.caps, c.mcda as u32, a);
+    choices::pick(
         c.page == pages::HOST,
-        choices::pick_four(c.create, captured, host_last),
+        choices::pick(c.create, captured, host_last),
         controller_last,
     )
 }
 
-fn first(
-    disagree: bool,
-    unserved: bool,
-    invalid: bool,
-    broken: bool,
-    beyond: bool,
-    short: bool,
-) -> u8
-    ensures { result ≡ command_order disagree unserved invalid broken beyond short }
+// Whether a command is accepted, and if not, why.
+pub fn on_command(r: Record, c: Command, a: [u32; 4], lent: Lent) -> Result<(), Refusal>
+    ensures { (result_number result ≡ command_answer r c a lent) × (class_in result ≡ class_for (command_answer r c a lent) c.page) }
 {
-    if disagree {
-        return answers::DISAGREE;
+    if !records::agrees(r, lent.host, lent.controller) {
+        return Err(Refusal::Disagree);
     }
-    if unserved {
-        return answers::INVALID_LOG_PAGE;
+    if !(((c.page == pages::HOST) | (c.page == pages::CONTROLLER)) & r.caps.telemetry) {
+        return Err(Refusal::InvalidLogPage(answers::class(c.page)));
     }
-    if invalid {
-        return answers::INVALID_FIELD;
+    if field_bad(r.caps, c) {
+        return Err(Refusal::InvalidField);
     }
-    if broken {
-        return answers::BROKEN_CANDIDATE;
+    let kept = pages::last_of(trimming::top(r.caps, c.mcda as u32), a);
+    if c.create & !candidate_ok(kept, a, lent.bytes, lent.reason, lent.host) {
+        return Err(Refusal::BrokenCandidate);
     }
-    if beyond {
-        return answers::INVALID_FIELD;
-    }
-    if short {
-        return answers::SHORT_BUFFER;
-    }
-    answers::SUCCESS
-}
-
-// The answer to a command.
-pub fn on_command(r: Record, c: Command, a: [u32; 4], lent: Lent) -> u8
-    ensures { result ≡ command_answer r c a lent }
-{
-    let caps = r.caps;
-    let kept = pages::last_of(trimming::top(caps, c.mcda as u32), a);
     let last = last_after(r, c, a);
-    first(
-        !records::agrees(r, lent.host, lent.controller),
-        !(((c.page == pages::HOST) | (c.page == pages::CONTROLLER)) & caps.telemetry),
-        field_bad(caps, c),
-        c.create & !candidate_ok(kept, a, lent.bytes, lent.reason, lent.host),
-        pages::size(caps, last) < c.offset,
-        lent.buf < c.bytes,
-    )
+    if pages::size(r.caps, last) < c.offset {
+        return Err(Refusal::InvalidField);
+    }
+    if lent.buf < c.bytes {
+        return Err(Refusal::ShortBuffer);
+    }
+    Ok(())
 }
 
-// The answer to a capture of the controller's own, on 08h.
-pub fn on_capture(r: Record, a: [u32; 4], lent: Lent) -> u8
-    ensures { result ≡ capture_answer r a lent }
+// Whether a capture of the controller's own, on 08h, is accepted, and if not, why.
+pub fn on_capture(r: Record, a: [u32; 4], lent: Lent) -> Result<(), Refusal>
+    ensures { (result_number result ≡ capture_answer r a lent) × (class_in result ≡ 0) }
 {
-    let caps = r.caps;
-    let kept = pages::last_of(trimming::top(caps, 0), a);
-    let a3 = a[2];
+    if !records::agrees(r, lent.host, lent.controller) {
+        return Err(Refusal::Disagree);
+    }
+    let kept = pages::last_of(trimming::top(r.caps, 0), a);
     let fine = candidate_ok(kept, a, lent.bytes, lent.reason, lent.controller);
-    first(
-        !records::agrees(r, lent.host, lent.controller),
-        false,
-        false,
-        !(fine & (0 < a3)),
-        false,
-        false,
-    )
+    if fine & (0 < a[2]) {
+        Ok(())
+    } else {
+        Err(Refusal::BrokenCandidate)
+    }
 }

@@ -3,14 +3,15 @@
 --            bits 31:16 low half of the dword count. CDW11 bits 15:0: its high half.
 --     CDW12, CDW13: offset, low and high 32 bits. CDW14 bit 23: offset type.
 -- Assumes nothing.
-use Rattle.std.specs.Prelude.{ℕ, zero, suc, ◌+◌, ◌-◌, ◌*◌, ◌/◌, ◌%◌, ◌^◌, [], ◌∷◌, Bool, not, ◌&&◌, ◌||◌, leb, eqb}
+use Rattle.std.specs.Result.{result_unwrap_or}
+use Rattle.std.specs.Prelude.{Result, ℕ, zero, suc, ◌+◌, ◌-◌, ◌*◌, ◌/◌, ◌%◌, ◌^◌, [], ◌∷◌, Bool, not, ◌&&◌, ◌||◌, leb, eqb}
 use Rattle.choices.specs.Choice.{pick}
 use Rattle.choices.specs.Tests.{holds}
-use Rattle.answers.specs.Answers.{success, bad_setup}
+use Rattle.answers.specs.declared.Refusal.{Refusal}
+use Rattle.answers.specs.Answers.{success, bad_setup, result_number}
 use Rattle.pages.specs.Pages.{host_page, controller_page, telemetry_page, block, most4}
 use Rattle.words.specs.declared.Words.{Words}
 use Rattle.words.specs.declared.Command.{Command}
-use Rattle.words.specs.declared.Built.{Built}
 
 -- bits high:low of x
 abbrev pub bits : ℕ → ℕ → ℕ → ℕ
@@ -79,6 +80,15 @@ packed_of page create mcda rae offset blocks = record {
 
 abbrev pub no_words : Words
 no_words = record { cdw10 = 0; cdw11 = 0; cdw12 = 0; cdw13 = 0; cdw14 = 0 }
+
+-- the builder's answer, 0 or 13, with the words, which are zeros with 13
+pub record Built : Type 0 where
+  pub answer : ℕ
+  pub words : Words
+
+-- the builder's result as its answer with the words
+abbrev pub built_told : Result Words Refusal → Built
+built_told r = record { answer = result_number r; words = result_unwrap_or r no_words }
 
 -- the builder's answer: 0 with the words, or 13 with five zero words
 unfoldable pub built_of : ℕ → Bool → ℕ → Bool → ℕ → ℕ → Built

@@ -1,13 +1,15 @@
 // The five command words of Get Log Page: read as the controller reads them, and built as the host sends them.
 //
 // It rests on choices, answers and pages. It promises that any five words are read to what specs/Words.antt says, that the builder gives the words of
-// its arguments or 13 with five zero words, and that what it builds is read back to the arguments (specs/Back.antt).
+// its arguments or 13, and that what it builds is read back to the arguments (specs/Back.antt).
 #![tactic(auto)]
 
 ghost use Rattle.std.specs.Prelude.{◌≡◌, ◌+◌, ◌-◌, ◌*◌, ◌/◌, ◌%◌, ◌≤◌};
 ghost use Rattle.choices.specs.Choice.{pick};
-ghost use Rattle.words.specs.Words.{long_bytes, short_bytes, offset_of, read_of, taken, packed_of, no_words, built_of};
+ghost use Rattle.words.specs.Words.{long_bytes, short_bytes, offset_of, read_of, taken, packed_of, no_words, built_told, built_of};
 ghost use Rattle.words.specs.Back.{Bounds};
+
+use answers::Refusal;
 
 // The most blocks of a command.
 pub const MOST_BLOCKS: u32 = 8192;
@@ -34,11 +36,14 @@ pub struct Command {
     pub indexed: bool,
 }
 
-// The builder's answer, 0 or 13, with the words, which are zeros with 13.
+// What the words are built from after the page. `offset` and `blocks`, the length, are in blocks; the header is block 0.
 #[derive(Clone, Copy)]
-pub struct Built {
-    pub answer: u8,
-    pub words: Words,
+pub struct Ask {
+    pub create: bool,
+    pub mcda: u8,
+    pub rae: bool,
+    pub offset: u32,
+    pub blocks: u32,
 }
 
 fn long_bytes(w: Words) -> usize
@@ -68,49 +73,49 @@ pub fn read(extended: bool, w: Words) -> Command
         create: (w.cdw10 % 256 == 0x07) & (w.cdw10 / 256 % 2 == 1),
         mcda: (w.cdw10 / 512 % 8) as u8,
         rae: w.cdw10 / 32768 % 2 == 1,
-        bytes: choices::pick_usize(extended, long_bytes(w), short_bytes(w)),
+        bytes: choices::pick(extended, long_bytes(w), short_bytes(w)),
         offset: offset_of(w),
         indexed: w.cdw14 / 8388608 % 2 == 1,
     }
 }
 
-fn taken_args(page: u8, create: bool, mcda: u8, offset: u32, blocks: u32) -> bool
-    ensures { result ≡ taken page create mcda offset blocks }
-{
-    ((page == pages::HOST) | (page == pages::CONTROLLER))
-        & !(create & (page == pages::CONTROLLER))
-        & (mcda <= 4)
-        & (create | (mcda == 0))
-        & (1 <= blocks)
-        & (blocks <= MOST_BLOCKS)
-        & (offset <= pages::MOST_4)
-}
+impl Ask {
+    // The builder takes them with the page.
+    #[tactic(auto, unfolding(crate::specs::Words::taken, choices::specs::Tests::holds))]
+    fn is_taken(self, page: u8) -> bool
+        ensures { result ≡ taken page self.create self.mcda self.offset self.blocks }
+    {
+        ((page == pages::HOST) | (page == pages::CONTROLLER))
+            & !(self.create & (page == pages::CONTROLLER))
+            & (self.mcda <= 4)
+            & (self.create | (self.mcda == 0))
+            & (1 <= self.blocks)
+            & (self.blocks <= MOST_BLOCKS)
+            & (self.offset <= pages::MOST_4)
+    }
 
-fn packed(page: u8, create: bool, mcda: u8, rae: bool, offset: u32, blocks: u32) -> Words
-    requires { Bounds mcda offset blocks }
-    ensures { result ≡ packed_of page create mcda rae offset blocks }
-{
-    let count = 128 * blocks - 1;
-    Words {
-        cdw10: (page as u32)
-            + bit(create, 256)
-            + 512 * (mcda as u32)
-            + bit(rae, 32768)
-            + 65536 * (count % 65536),
-        cdw11: count / 65536,
-        cdw12: 512 * offset,
-        cdw13: 0,
-        cdw14: 0,
+    // Their words where they are taken.
+    fn packed(self, page: u8) -> Words
+        requires { Bounds self.mcda self.offset self.blocks }
+        ensures { result ≡ packed_of page self.create self.mcda self.rae self.offset self.blocks }
+    {
+        let count = 128 * self.blocks - 1;
+        Words {
+            cdw10: (page as u32)
+                + choices::pick(self.create, 256, 0)
+                + 512 * (self.mcda as u32)
+                + choices::pick(self.rae, 32768, 0)
+                + 65536 * (count % 65536),
+            cdw11: count / 65536,
+            cdw12: 512 * self.offset,
+            cdw13: 0,
+            cdw14: 0,
+        }
     }
 }
 
-fn bit(t: bool, value: u32) -> u32
-    ensures { (result ≡ pick t value 0) × (result ≤ value) }
-{
-    if t { value } else { 0 }
-}
-
 // Five zero words.
+// It is no derived default, since the must-fail edits `no_words_with_a_page` and `no_words_with_an_offset` change its numbers.
 pub fn no_words() -> Words
     ensures { result ≡ no_words }
 {
@@ -123,22 +128,13 @@ pub fn no_words() -> Words
     }
 }
 
-// The five words of a command. `offset` and `blocks`, the length, are in blocks; the header is block 0.
-pub fn build(page: u8, create: bool, mcda: u8, rae: bool, offset: u32, blocks: u32) -> Built
-    ensures { result ≡ built_of page create mcda rae offset blocks }
+// The five words of a command, or a refusal of what they are built from.
+#[tactic(auto, using(crate::specs::Back::taken_bounds), unfolding(crate::specs::Words::built_of))]
+pub fn build(page: u8, ask: Ask) -> Result<Words, Refusal>
+    ensures { built_told result ≡ built_of page ask.create ask.mcda ask.rae ask.offset ask.blocks }
 {
-    let fine = taken_args(page, create, mcda, offset, blocks);
-    if fine {
-        let words = packed(page, create, mcda, rae, offset, blocks);
-        Built {
-            answer: answers::SUCCESS,
-            words,
-        }
-    } else {
-        let words = no_words();
-        Built {
-            answer: answers::BAD_SETUP,
-            words,
-        }
+    if !ask.is_taken(page) {
+        return Err(Refusal::BadSetup);
     }
+    Ok(ask.packed(page))
 }

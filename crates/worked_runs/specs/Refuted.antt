@@ -14,8 +14,8 @@ use Rattle.plans.specs.Plans.{setup_answer}
 use Rattle.endings.specs.declared.Ending.{Ending}
 use Rattle.endings.specs.declared.Ending.TheVariants.{Success, UsedUp, BrokeItsWord, OutOfReach}
 use Rattle.collection.specs.declared.Finish.{Finish}
-use Rattle.collection.specs.declared.Next.{Next}
-use Rattle.collection.specs.declared.Next.TheVariants.{Send, End as Ends}
+use Rattle.collection.specs.Told.{Next}
+use Rattle.collection.specs.Told.{Send, End as Ends}
 use Rattle.controller.specs.Controller.{World}
 use Rattle.runs.specs.Run.{most_chunks}
 use Rattle.sources.specs.Source.{Collector, ours, Turn}

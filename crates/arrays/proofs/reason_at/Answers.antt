@@ -1,4 +1,4 @@
--- `littleendian::reason_at` meets its contract: a whole array of 128 bytes is replaced by those from a place on.
+-- `arrays::reason_at` meets its contract: a whole array of 128 bytes is replaced by those from a place on.
 -- Assumes nothing.
 use Prim.Native.Nat.{ℕ}
 use mathlib.Core.Path.{◌≡◌, ap, ◌∙◌}

@@ -2,7 +2,7 @@
 -- Assumes nothing.
 use Rattle.std.proofs.Common.{ap, not}
 use Rattle.controller.specs.Controller.{candidate_of}
-use Rattle.controller_boundary.proofs.Steps.{capture_damaged, capture_done}
+use Rattle.controller_boundary.proofs.Steps.{capture_damaged, capture_given}
 use Rattle.controller_boundary.proofs.bumbazeel_capture.Goals as goal
 
 pub returns-then-not-record_intact : goal.returns-then-not-record_intact
@@ -14,6 +14,6 @@ returns-then-not-record_intact c =
 pub returns : goal.returns
 returns c =
     let a = c.args in
-    capture_done a.own.now a.host_store.now a.controller_store.now
-    (candidate_of a.last.now a.bytes.now a.reason.now) c.record_intact.ensures (ap not c.if-not-record_intact.false)
-    c.read_record.ensures c.capture-taken.ensures c.record_after.ensures
+    capture_given a.own.now a.host_store.now a.controller_store.now
+    (candidate_of a.last.now a.bytes.now a.reason.now) c.capture-taken.result c.record_intact.ensures (ap not c.if-not-record_intact.false)
+    c.read_record.ensures c.capture-taken.ensures (c.record_after.ensures c.read_record.result) c.number.ensures

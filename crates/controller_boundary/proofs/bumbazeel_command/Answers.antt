@@ -3,7 +3,7 @@
 use Rattle.std.proofs.Common.{ap, not}
 use Rattle.controller.specs.Controller.{candidate_of}
 use Rattle.controller_boundary.specs.Boundary.{words_of}
-use Rattle.controller_boundary.proofs.Steps.{command_damaged, command_done}
+use Rattle.controller_boundary.proofs.Steps.{command_damaged, command_given}
 use Rattle.controller_boundary.proofs.bumbazeel_command.Goals as goal
 
 pub returns-then-not-record_intact : goal.returns-then-not-record_intact
@@ -16,7 +16,7 @@ returns-then-not-record_intact c =
 pub returns : goal.returns
 returns c =
     let a = c.args in
-    command_done a.own.now a.host_store.now a.controller_store.now
+    command_given a.own.now a.host_store.now a.controller_store.now
     (candidate_of a.last.now a.bytes.now a.reason.now) (words_of a.words.now) a.buffer.now
-    c.record_intact.ensures (ap not c.if-not-record_intact.false) c.read_record.ensures c.words_of.ensures
-    c.command-x.ensures c.record_after.ensures
+    c.command-answer.result c.record_intact.ensures (ap not c.if-not-record_intact.false) c.read_record.ensures c.words_of.ensures
+    c.command-answer.ensures (c.record_after.ensures c.read_record.result) c.number.ensures c.class_number.ensures

@@ -1,11 +1,15 @@
 -- `planned_layout::write_planned` meets its contract: the puts follow one another, and the last ends where the array ends.
 -- Assumes nothing.
+use Rattle.std.proofs.Common.{rules}
+use Rattle.arrays.specs.Puts.{put_four}
+use Rattle.completions.specs.Plan.{Planned}
 use Rattle.planned_layout.specs.Back.{planned_is}
 use Rattle.planned_layout.proofs.write_planned.Goals as goal
 
 pub returns : goal.returns
-returns c =
+returns c answer =
     let a = c.args in
     let reason = c.put_reason.ensures in
-    planned_is a.page a.x reason.1 c.marks.ensures c.put.ensures c.put4.ensures c.put_fours.ensures reason.0
-    c.put4-2.ensures
+    let x : Planned = record { answer = answer; fault = a.fault; fields = a.fields; chunks = a.chunks } in
+    planned_is a.page x reason.1 (c.marks.ensures answer a.chunks) c.put.ensures c.put_le.ensures (put_four _ _ _ 12 (search rules) c.put_all.ensures) reason.0
+    c.put_le-2.ensures

@@ -1,22 +1,29 @@
--- `reader::block_at` meets its contract: a block at the place lies within the copy, so its part has the block's length; at the
--- end the part is empty.
+-- `reader::block_at` meets its contract: a block at the place lies within the copy, so its part has the block's length; at the end the part is empty.
 -- Assumes nothing.
-use mathlib.Core.Path.{sym, ◌∙◌}
-use native.Mathlib.Omega.{arith}
-use Rattle.reader.specs.Reader.{block_at, part_at}
-use Rattle.reader.specs.Laws.{more_holds, width}
+use Rattle.std.proofs.Common.{ap, ◌∙◌, sym, arith, ℕ, take, drop}
+use Rattle.reader.specs.Reader.{block_at, part_at, led_to}
+use Rattle.reader.specs.Laws.{block_yes, led_on, led_nowhere}
 use Rattle.reader.proofs.block_at.Goals as goal
 
-pub overflow_add-result : goal.overflow_add-result
-overflow_add-result c = omega (arith, more_holds _ _ (sym c.more_at-more.ensures ∙ c.if-more.true))
+pub slice_bounds-result-count : goal.slice_bounds-result-count
+slice_bounds-result-count c =
+    let l = led_on _ _ _ (ap (led_to c.args.at) (sym c.in-Some.is) ∙ c.place_at.ensures) in omega arith
+
+pub slice_bounds-result-start : goal.slice_bounds-result-start
+slice_bounds-result-start c =
+    let l = led_on _ _ _ (ap (led_to c.args.at) (sym c.in-Some.is) ∙ c.place_at.ensures) in omega arith
 
 pub slice_bounds-result-end : goal.slice_bounds-result-end
-slice_bounds-result-end c = omega (arith, more_holds _ _ (sym c.more_at-more.ensures ∙ c.if-more.true))
+slice_bounds-result-end c =
+    let l = led_on _ _ _ (ap (led_to c.args.at) (sym c.in-Some.is) ∙ c.place_at.ensures) in omega arith
 
-pub returns-then-more : goal.returns-then-more
-unfolding block_at part_at
-returns-then-more c = let e = sym c.more_at-more.ensures ∙ c.if-more.true in (rw (e, width), rw e)
+pub returns-in-Some : goal.returns-in-Some
+unfolding part_at
+returns-in-Some c =
+    let l = led_on _ _ _ (ap (led_to c.args.at) (sym c.in-Some.is) ∙ c.place_at.ensures) in
+    (ap (λ (n : ℕ). take n (drop c.args.at c.args.copy.now)) l.wide ∙ sym (block_yes c.args.copy.now c.args.at l.more), rw l.more)
 
-pub returns : goal.returns
+pub returns-in-None : goal.returns-in-None
 unfolding block_at part_at
-returns c = let e = sym c.more_at-more.ensures ∙ c.if-more.false in (rw e, rw e)
+returns-in-None c =
+    let e = led_nowhere _ _ (ap (led_to c.args.at) (sym c.in-None.is) ∙ c.place_at.ensures) in (rw e, rw e)

@@ -1,18 +1,23 @@
--- `reader::place_at` meets its contract: a block at the place lies within the copy, so the next place does not wrap.
+-- `reader::place_at` meets its contract: a place from which a block would end past the greatest number, or past the copy, is at the end.
 -- Assumes nothing.
-use mathlib.Core.Path.{sym, ◌∙◌}
-use native.Mathlib.Omega.{arith}
-use Rattle.reader.specs.Reader.{place_at}
-use Rattle.reader.specs.Laws.{more_holds}
+use Rattle.std.proofs.Common.{sym, ap, ◌∙◌, arith, ℕ, ◌<◌, ◌+◌, Some}
+use Rattle.pages.specs.Pages.{block}
+use Rattle.reader.specs.Reader.{led_to}
+use Rattle.reader.specs.Laws.{more_yes, more_no, place_yes, place_no}
 use Rattle.reader.proofs.place_at.Goals as goal
 
-pub overflow_add-result : goal.overflow_add-result
-overflow_add-result c = omega (arith, more_holds _ _ (sym c.more_at-more.ensures ∙ c.if-more.true))
+pub returns-in_err-after : goal.returns-in_err-after
+returns-in_err-after c =
+    let a = c.args in
+    let past : a.n < a.at + block = omega arith in
+    ap (led_to a.at) c.from_residual.ensures ∙ sym (place_no a.n a.at (more_no a.n a.at past))
 
-pub returns-then-more : goal.returns-then-more
-unfolding place_at
-returns-then-more c = rw (sym c.more_at-more.ensures ∙ c.if-more.true)
+pub returns-then-after-n : goal.returns-then-after-n
+returns-then-after-n c =
+    let a = c.args in
+    ap (λ (n : ℕ). led_to a.at (Some n)) c.in_ok-after.ensures.1 ∙ sym (place_yes a.n a.at (more_yes a.n a.at (omega arith)))
 
-pub returns : goal.returns
-unfolding place_at
-returns c = rw (sym c.more_at-more.ensures ∙ c.if-more.false)
+pub returns-else-after-n : goal.returns-else-after-n
+returns-else-after-n c =
+    let a = c.args in
+    sym (place_no a.n a.at (more_no a.n a.at (omega arith)))

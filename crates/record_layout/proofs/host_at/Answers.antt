@@ -1,8 +1,10 @@
 -- `record_layout::host_at` meets its contract: each field is read from the bytes that the definition names.
 -- Assumes nothing.
+use mathlib.Core.Path.{◌∙◌}
+use Rattle.arrays.specs.Back.{four_values}
 use Rattle.record_layout.specs.Steps.{host_is}
 use Rattle.record_layout.proofs.host_at.Goals as goal
 
 pub returns : goal.returns
 returns c =
-    host_is c.args.b.now c.fours_at-last.ensures c.reason_at-reason.ensures
+    host_is c.args.b.now (c.all_at-last.ensures ∙ four_values 12 c.args.b.now) c.reason_at-reason.ensures

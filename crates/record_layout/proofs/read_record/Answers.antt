@@ -5,5 +5,5 @@ use Rattle.record_layout.proofs.read_record.Goals as goal
 
 pub returns : goal.returns
 returns c =
-    read_is c.args.b.now c.read_caps-caps.ensures c.value4_at.ensures c.host_at-host.ensures
+    read_is c.args.b.now c.read_caps-caps.ensures c.value_at.ensures c.host_at-host.ensures
     c.controller_at-controller.ensures

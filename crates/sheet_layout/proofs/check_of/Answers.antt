@@ -1,20 +1,16 @@
--- `sheet_layout::check_of` meets its contract: after i turns the first i numbers of runs are added to the mark.
+-- `sheet_layout::check_of` meets its contract: the totals are added to the mark one after another.
 -- Assumes nothing.
-use Rattle.std.proofs.Common.{arith}
-use Rattle.sheets.specs.Turns.{turn, turned}
+use Rattle.std.proofs.Common.{◌≡◌, ◌∙◌, refl, length, rules, tests}
+use Rattle.std.proofs.lemmas.Iterator.{YieldsList-from_slice}
+use Rattle.std.proofs.lemmas.Iterator.Consumers.{fold_from_yields_List}
+use Rattle.sheets.specs.Steps.{wrap}
 use Rattle.sheet_layout.specs.Layout.{mark}
-use Rattle.sheet_layout.specs.Steps.{check_by_turns}
-use Rattle.sheet_layout.proofs.check_of.Invariants.{step}
+use Rattle.sheet_layout.specs.Steps.{runs_by_fold, check_by_turns}
 use Rattle.sheet_layout.proofs.check_of.Goals as goal
-
-pub loop-i-preserved : goal.loop-i-preserved
-loop-i-preserved c =
-    let l = c.loop-i in
-    (omega arith, turn (step c.args.s.runs) mark l.i l.invariant.1 c.wrapping_add_u64-runs.ensures.value)
 
 pub returns : goal.returns
 returns c =
-    let l = c.loop-i in
     let s = c.args.s in
-    check_by_turns s (turned (step s.runs) mark l.i (omega arith) l.invariant.1) c.wrapping_add_u64-blocks.ensures.value
-    c.wrapping_add_u64-commands.ensures.value c.wrapping_add_u64.ensures.value
+    let eight : length s.runs ≡ 8 = search rules in
+    let runs = fold_from_yields_List _ wrap mark c.fold-runs.result c.fold-runs.ensures.ran (YieldsList-from_slice s.runs cc) (λ a x b q k. search (rules, tests)) in
+    check_by_turns s (runs ∙ runs_by_fold s.runs eight) refl refl refl

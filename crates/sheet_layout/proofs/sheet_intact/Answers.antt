@@ -5,4 +5,4 @@ use Rattle.sheet_layout.proofs.sheet_intact.Goals as goal
 
 pub returns : goal.returns
 returns c =
-    intact_is c.args.b.now c.read_sheet-s.ensures c.value8_at-mark.ensures c.value8_at-check.ensures c.check_of.ensures c.is_possible.ensures
+    intact_is c.args.b.now c.read_sheet-s.ensures c.value_at-mark.ensures c.value_at-check.ensures c.check_of.ensures c.is_possible.ensures

@@ -5,4 +5,5 @@ use Rattle.sheet_layout.proofs.write_mean.Goals as goal
 
 pub returns : goal.returns
 returns c =
-    mean_by_test c.args.m c.put8.ensures c.put8-2.ensures c.put8-3.ensures
+    let a = c.args in
+    mean_by_test (record { given = a.given; whole = a.whole; rest = a.rest }) c.put_le.ensures c.put_le-2.ensures c.put_le-3.ensures

@@ -1,20 +1,16 @@
--- `sheets::sum_runs` meets its contract: after `at` turns the first `at` sums stand in front.
+-- `sheets::sum_runs` meets its contract: the first sum that is none ends it, or eight turns have set all of them.
 -- Assumes nothing.
-use Rattle.std.proofs.Common.{ℕ, set, replicate, ap, arith}
-use Rattle.sheets.specs.Steps.{wrapped_runs}
-use Rattle.sheets.specs.Turns.{turn, turned}
-use Rattle.sheets.proofs.sum_runs.Invariants.{step}
+use Rattle.std.proofs.Common.{◌∙◌, arith}
+use Rattle.sheets.specs.Steps.{runs_none, runs_set}
 use Rattle.sheets.proofs.sum_runs.Goals as goal
 
-pub loop-at-preserved : goal.loop-at-preserved
-loop-at-preserved c =
-    let l = c.loop-at in
+pub returns-in_err-r : goal.returns-in_err-r
+returns-in_err-r c =
     let a = c.args in
-    (omega arith, turn (step a.p a.q) (replicate 8 0) l.at l.invariant.1 (ap (λ (n : ℕ). set l.r l.at n) c.wrapping_add_u64.ensures.value))
+    c.from_residual.ensures ∙ runs_none a.p a.q c.loop-i.i (omega arith) c.in_err-r.ensures
 
 pub returns : goal.returns
-unfolding wrapped_runs
 returns c =
-    let l = c.loop-at in
     let a = c.args in
-    turned (step a.p a.q) (replicate 8 0) l.at (omega arith) l.invariant.1
+    let l = c.loop-i in
+    runs_set a.p a.q l.i (omega arith) l.invariant.0 l.invariant.1

@@ -1,15 +1,10 @@
--- After `at` turns the first `at` sums stand in front.
+-- After i turns the first i sums are totals, and stand in front.
 -- Assumes nothing.
-use Rattle.std.proofs.Common.{◌≡◌, ℕ, ◌-◌, ◌≤◌, List, get_or, set, replicate}
-use Rattle.sheets.specs.Steps.{wrap}
+use Rattle.std.proofs.Common.{◌≡◌, ℕ, ◌<◌, true, get_or, replicate}
+use Rattle.sheets.specs.Sheets.{fits}
 use Rattle.sheets.specs.Turns.{turns}
+use Rattle.sheets.specs.Steps.{set_sum}
 use Rattle.sheets.proofs.sum_runs.Given as goal
 
-abbrev pub step : List ℕ → List ℕ → List ℕ → ℕ → List ℕ
-step p q r i = set r i (wrap (get_or p i 0) (get_or q i 0))
-
-abbrev pub invariant-loop-at : goal.invariant-loop-at
-invariant-loop-at l = (l.at ≤ 8) × (l.r ≡ turns (step l.p l.q) (replicate 8 0) l.at)
-
-abbrev pub decreases-loop-at : goal.decreases-loop-at
-decreases-loop-at l = 8 - l.at
+abbrev pub invariant-loop-i : goal.invariant-loop-i
+invariant-loop-i l = ((k : ℕ) → k < l.i → fits (get_or l.p k 0) (get_or l.q k 0) ≡ true) × (l.r ≡ turns (set_sum l.p l.q) (replicate 8 0) l.i)

@@ -6,4 +6,4 @@ use Rattle.state_layout.proofs.plan_at.Goals as goal
 pub returns : goal.returns
 returns c =
     let a = c.args in
-    plan_is a.b.now a.chunk a.attempts c.read_caps-caps.ensures c.value8_at.ensures
+    plan_is a.b.now a.chunk a.attempts c.read_caps-caps.ensures c.value_at.ensures

@@ -5,4 +5,4 @@ use Rattle.state_layout.proofs.state_intact.Goals as goal
 
 pub returns : goal.returns
 returns c =
-    intact_is c.args.b.now c.value4_at.ensures
+    intact_is c.args.b.now c.value_at.ensures

@@ -1,4 +1,4 @@
--- `turns::settle` meets its contract: the arms are the definition's clauses.
+-- `touches::settle` meets its contract: the arms are the definition's clauses.
 -- Assumes nothing.
 use mathlib.Core.Path.{◌∙◌}
 use Rattle.touches.specs.Touched.{touched}

@@ -1,8 +1,9 @@
--- `turns::zeros_from` meets its contract: where the copy ends before the place nothing is written.
+-- `touches::zeros_from` meets its contract: where the copy ends before the place nothing is written.
 -- Assumes nothing.
-use mathlib.Core.Path.{sym}
+use Rattle.std.proofs.Common.{sym}
+use Rattle.std.proofs.Math.Nat.{lt_of_not-le}
 use Rattle.touches.specs.Touched.{zeros_none}
 use Rattle.touches.proofs.zeros_from.Goals as goal
 
-pub returns-else-place-copy : goal.returns-else-place-copy
-returns-else-place-copy c = sym (zeros_none _ _ c.if-place-copy.false)
+pub returns-in_default : goal.returns-in_default
+returns-in_default c = sym (zeros_none _ _ (lt_of_not-le c.in_default.ensures))

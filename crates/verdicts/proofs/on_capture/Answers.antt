@@ -1,9 +1,18 @@
--- `verdicts::on_capture` meets its contract: the order is a command's, with the two tests that a capture has.
+-- `verdicts::on_capture` meets its contract: its returns are those of specs/Steps.antt.
 -- Assumes nothing.
-use mathlib.Core.Path.{◌∙◌}
-use Rattle.verdicts.specs.Verdicts.{capture_answer}
+use Rattle.std.proofs.Common.{refl}
+use Rattle.verdicts.specs.Steps.{capture_disagrees, capture_whole, capture_broken}
 use Rattle.verdicts.proofs.on_capture.Goals as goal
 
-pub returns : goal.returns
-unfolding capture_answer
-returns c = c.first.ensures ∙ rw (c.agrees.ensures, c.candidate_ok-fine.ensures, c.last_of-kept.ensures, c.top.ensures)
+pub returns-then-not-agrees : goal.returns-then-not-agrees
+returns-then-not-agrees c = let a = c.args in (capture_disagrees a.r a.a a.lent c.agrees.ensures c.if-not-agrees.true, refl)
+
+pub returns-then-fine-a : goal.returns-then-fine-a
+returns-then-fine-a c =
+    let a = c.args in
+    (capture_whole a.r a.a a.lent c.agrees.ensures c.top.ensures c.last_of-kept.ensures c.candidate_ok-fine.ensures c.if-not-agrees.false c.if-fine-a.true, refl)
+
+pub returns-else-fine-a : goal.returns-else-fine-a
+returns-else-fine-a c =
+    let a = c.args in
+    (capture_broken a.r a.a a.lent c.agrees.ensures c.top.ensures c.last_of-kept.ensures c.candidate_ok-fine.ensures c.if-not-agrees.false c.if-fine-a.false, refl)

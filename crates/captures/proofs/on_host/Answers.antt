@@ -1,9 +1,0 @@
--- `captures::on_host` meets its contract: what is kept goes into the record.
--- Assumes nothing.
-use Rattle.std.proofs.Common.{◌∙◌}
-use Rattle.captures.proofs.on_host.Goals as goal
-
-pub returns : goal.returns
-returns c =
-    let k = c.kept-k.ensures in
-    (c.host_taken.ensures ∙ rw k.0, k.1)

@@ -1,7 +1,0 @@
--- `sheet_boundary::bumbazeel_enter` meets its contract: the answer of the entry, and the bytes that it leaves.
--- Assumes nothing.
-use Rattle.sheet_boundary.specs.Steps.{answers_with}
-use Rattle.sheet_boundary.proofs.bumbazeel_enter.Goals as goal
-
-pub returns : goal.returns
-returns c = answers_with c.args.sheet.now c.enter_at-x.ensures c.bytes_after.ensures
