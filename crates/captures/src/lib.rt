@@ -1,6 +1,6 @@
 // What a capture keeps of a candidate, in its page's store and in the record, what an acknowledgement clears, and what a drop does.
 //
-// It rests on choices, copies, pages, records and trimming. It promises the record and the store afterwards, whatever is lent
+// It rests on copies, pages, records and trimming. It promises the record and the store afterwards, whatever is lent
 // (specs/Captures.antt); whether a candidate may be captured is judged before (verdicts).
 #![tactic(auto)]
 

@@ -76,7 +76,7 @@ impl From<Refusal> for NoPlan {
 // last blocks, which are zeros if it is refused; and the page's own generation byte, as it stands.
 #[derive(Clone, Copy)]
 pub struct Seen {
-    // What may not change: `judgement::judge` and `Collection::decide` promise what follows any number, with any fault beside it or none.
+    // A number, since `judgement::judge` and `Collection::decide` promise what follows any, with any fault beside it or none.
     pub answer: u8,
     pub fault: Option<Fault>,
     pub tcda: u8,

@@ -1,13 +1,13 @@
 -- What `command`, `capture` and `drop` do, path by path, in variables: each function's proof hands over what its calls ensure.
 -- Assumes nothing.
 use Rattle.std.specs.Prelude.{ℕ, ◌*◌, ◌≤◌, ◌≡◌, refl, List, [], Result, Err, Bool, true, false, length, take}
-use Rattle.std.proofs.Common.{sym, ap, subst, ◌∙◌, arith, eqb-true, ne_eqb}
+use Rattle.std.proofs.Common.{sym, ap, subst, ◌∙◌, arith, eqb-true, eq-eqb, ne_eqb}
 use Rattle.choices.specs.Choice.{pick}
-use Rattle.choices.specs.Tests.{by_test, and_left}
+use Rattle.choices.specs.Tests.{clash, by_test, and_left}
 use Rattle.copies.specs.Parts.{zeros, put_length, put_whole}
 use Rattle.answers.specs.Answers.{success, disagree, refusal_number, class_told}
 use Rattle.answers.specs.declared.Refusal.{Refusal}
-use Rattle.answers.specs.declared.Refusal.TheVariants.{InvalidField, InvalidLogPage, ShortBuffer, Disagree, BrokenCandidate, NoArea4, NoRoom, Nothing, BadSetup, AlreadyEnded, DoesNotFit, OutOfReach, TotalFull}
+use Rattle.answers.specs.Refused.{refused_is as no_success}
 use Rattle.pages.specs.Pages.{host_page, telemetry_page, block, last_of, per_page}
 use Rattle.pages.specs.Laws.{by_page}
 use Rattle.lastblocks.specs.Laws.{blocks_greatest}
@@ -49,19 +49,7 @@ sent_is w c page buf b p f r e =
 
 -- a refusal is no success
 pub refused_number : (e : Refusal) → refusal_number e ≡ success → ⊥
-refused_number InvalidField h = omega arith
-refused_number (InvalidLogPage class) h = omega arith
-refused_number ShortBuffer h = omega arith
-refused_number Disagree h = omega arith
-refused_number BrokenCandidate h = omega arith
-refused_number NoArea4 h = omega arith
-refused_number NoRoom h = omega arith
-refused_number Nothing h = omega arith
-refused_number BadSetup h = omega arith
-refused_number AlreadyEnded h = omega arith
-refused_number DoesNotFit h = omega arith
-refused_number OutOfReach h = omega arith
-refused_number TotalFull h = omega arith
+refused_number e h = clash (eq-eqb _ success h) (no_success e)
 
 -- a refusal that is given: its number, its class and the record as lent
 pub refusal_given : (lent : Record) (e : Refusal) {r : Result Record Refusal} {class : ℕ} → r ≡ Err e → class_told e ≡ class

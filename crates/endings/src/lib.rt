@@ -12,7 +12,7 @@ use header::Fault;
 #[derive(Clone, Copy, PartialEq, Eq)]
 pub enum Ending {
     Success(bool),
-    // What may not change: `judgement::judge` promises this ending of any header seen that answers 7, with any fault beside it or none.
+    // Maybe with no fault: `judgement::judge` promises this ending of any header seen that answers 7, with any fault beside it or none.
     BadHeader(Option<Fault>),
     OutOfReach,
     NoRoom,

@@ -10,6 +10,7 @@ use Rattle.answers.specs.declared.Refusal.{Refusal}
 use Rattle.answers.specs.declared.Refusal.TheVariants.{BadSetup}
 use Rattle.sheets.specs.declared.Sheet.{Sheet}
 use Rattle.sheets.specs.Sheets.{Entered, endings, answered, outcome, add_of}
+use Rattle.sheets.specs.Steps.{said}
 use Rattle.entries.specs.declared.Run.{Run}
 use Rattle.entries.specs.Entries.{single, is_ending, is_run, enter_of}
 
@@ -78,11 +79,6 @@ place_found n k p =
 
 no_place : (n : ℕ) → None ≡ place_among n → is_ending n ≡ false
 no_place n p = by_ending n (λ m j w q a. some_none j (sym q ∙ sym (ap place_among w) ∙ sym p)) (λ q x. x)
-
--- the refusal where there is no place
-abbrev said : Result ℕ Refusal → Refusal
-said (Ok k) = BadSetup
-said (Err x) = x
 
 pub said_none : {o : Option ℕ} {x : Refusal} → Err x ≡ ok_or o BadSetup → o ≡ None → x ≡ BadSetup
 said_none {o} {x} e n = ap said (e ∙ ap (λ (p : Option ℕ). ok_or p BadSetup) n)

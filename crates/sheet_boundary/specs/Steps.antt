@@ -9,6 +9,7 @@ use Rattle.answers.specs.declared.Refusal.{Refusal}
 use Rattle.answers.specs.declared.Refusal.TheVariants.{BadSetup}
 use Rattle.sheets.specs.declared.Sheet.{Sheet}
 use Rattle.sheets.specs.Sheets.{Entered, Mean, outcome, add_of, no_mean, mean_of}
+use Rattle.sheets.specs.Steps.{said}
 use Rattle.entries.specs.declared.Run.{Run}
 use Rattle.entries.specs.Entries.{enter_of}
 use Rattle.sheet_layout.specs.Layout.{sheet_bytes, sheet_at, sheet_intact, mean_bytes}
@@ -34,12 +35,7 @@ pub record Refused (b : List ℕ) (x : Refusal) : Type 0 where
   pub damaged : sheet_intact b ≡ false
   pub is : x ≡ BadSetup
 
-said : Result Sheet Refusal → Refusal
-said (Ok s) = BadSetup
-said (Err x) = x
-
 pub read_err : (b : List ℕ) (x : Refusal) → Err x ≡ sheet_of b → Refused b x
-unfolding said
 read_err b x =
     by_test (sheet_intact b)
     (λ t. rw t (λ e. clash (ap is_ok e) refl))

@@ -1,6 +1,6 @@
 -- What the code's calls come to, one after another.
 -- Assumes nothing.
-use Rattle.std.specs.Prelude.{◌≡◌, ℕ, ◌+◌, ◌%◌, ◌^◌, Bool, ◌&&◌, List, [], ◌∷◌, ◌++◌, ◌==◌, length, replicate, slice_index, refl}
+use Rattle.std.specs.Prelude.{◌≡◌, ℕ, ◌+◌, ◌%◌, ◌^◌, Bool, ◌&&◌, List, [], ◌∷◌, ◌==◌, length, slice_index, refl}
 use Rattle.std.specs.List.{fold}
 use Rattle.std.proofs.Common.{ap, ◌∙◌, arith}
 use Rattle.std.proofs.Math.Nat.{mod-add-mod}
@@ -12,7 +12,7 @@ use Rattle.littleendian.specs.Numbers.{bytes_of, value_at}
 use Rattle.littleendian.specs.Puts.{then}
 use Rattle.arrays.specs.Arrays.{numbers_of, values_at}
 use Rattle.sheets.specs.declared.Sheet.{Sheet}
-use Rattle.sheets.specs.Sheets.{Mean, each_of, no_mean, possible}
+use Rattle.sheets.specs.Sheets.{Mean, each_of, possible}
 use Rattle.sheets.specs.Steps.{wrap, number_is, eight_of}
 use Rattle.sheet_layout.specs.Layout.{mark, eights_of, eights_at, total, totals, check_of, sheet_bytes, sheet_at, sheet_intact, mean_bytes}
 

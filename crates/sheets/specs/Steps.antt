@@ -1,6 +1,6 @@
 -- What the code's calls come to.
 -- Assumes nothing.
-use Rattle.std.specs.Prelude.{◌≡◌, ℕ, zero, suc, ◌+◌, ◌-◌, ◌%◌, ◌^◌, ◌≤◌, ◌<◌, is_some, replicate, leb, map, length, ◌||◌, Bool, true, false, ◌&&◌, List, [], ◌∷◌, Option, Some, None, ◌≢◌, nat_le, slice_index, refl}
+use Rattle.std.specs.Prelude.{◌≡◌, ℕ, zero, suc, ◌+◌, ◌-◌, ◌%◌, ◌^◌, ◌≤◌, ◌<◌, is_some, replicate, leb, map, length, ◌||◌, Bool, true, false, ◌&&◌, List, [], ◌∷◌, Option, Some, None, Result, Ok, Err, ◌≢◌, nat_le, slice_index, refl}
 use Rattle.std.proofs.Common.{sym, ap, ◌∙◌, set, arith, mod-eq_of_lt, leb-true, leb-false, le-leb, eq-eqb, ne_eqb}
 use Rattle.std.specs.Option.{unwrap_or, ok_or}
 use Rattle.std.specs.List.{list_any}
@@ -9,10 +9,16 @@ use Rattle.std.proofs.lemmas.Bool.{lt-leb}
 use Rattle.choices.specs.Choice.{pick, one}
 use Rattle.choices.specs.Tests.{clash, by_test, and_right, holds, each}
 use Rattle.answers.specs.Answers.{success, total_full}
-use Rattle.answers.specs.declared.Refusal.TheVariants.{TotalFull}
+use Rattle.answers.specs.declared.Refusal.{Refusal}
+use Rattle.answers.specs.declared.Refusal.TheVariants.{BadSetup, TotalFull}
 use Rattle.sheets.specs.declared.Sheet.{Sheet}
 use Rattle.sheets.specs.Sheets.{or_from, any_run, Entered, greatest, good, each_of, fits, all_fit, plus, answered, outcome, add_of, no_mean, shared, mean_of}
 use Rattle.sheets.specs.Turns.{turns, turned}
+
+-- the refusal in an answer, so that two answers that are the same have the same one
+abbrev pub said : {A : Type 0} → Result A Refusal → Refusal
+said (Ok x) = BadSetup
+said (Err r) = r
 
 -- the sum of two totals, modulo 2^64
 abbrev pub wrap : ℕ → ℕ → ℕ
