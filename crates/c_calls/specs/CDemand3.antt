@@ -15,7 +15,7 @@ use Rattle.endings.specs.Endings.{number_of, newer_of}
 use Rattle.collection.specs.declared.Collection.{Collection}
 use Rattle.collection.specs.declared.Finish.{Finish}
 use Rattle.collection.specs.Told.{Next}
-use Rattle.collection.specs.Told.{Send, End as Ends, Refuse}
+use Rattle.collection.specs.declared.Next.TheVariants.{Send, End as Ends, Refuse}
 use Rattle.collection.specs.Collection.{setup_of}
 use Rattle.controller.specs.Controller.{World}
 use Rattle.runs.specs.Run.{given, most_chunks}

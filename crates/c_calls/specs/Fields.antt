@@ -20,7 +20,7 @@ use Rattle.phases.specs.declared.Phase.TheVariants.{First}
 use Rattle.completions.specs.Plan.{Planned, refused_plan, plan_of, plan_by}
 use Rattle.completions.specs.Planned.{planned_good, planned_refused, planned_bad_only, planned_good_only}
 use Rattle.collection.specs.Told.{Next}
-use Rattle.collection.specs.Told.{Refuse}
+use Rattle.collection.specs.declared.Next.TheVariants.{Refuse}
 use Rattle.collection.specs.Told.{Stepped}
 use Rattle.collection.specs.Collection.{refusal_of, setup_of, step_of, copy_after, answer_of, fault_said}
 use Rattle.demands.specs.Fields.{not_length}

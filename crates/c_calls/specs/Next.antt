@@ -23,7 +23,7 @@ use Rattle.endings.specs.Endings.{newer_of}
 use Rattle.collection.specs.declared.Collection.{Collection}
 use Rattle.collection.specs.declared.Finish.{Finish}
 use Rattle.collection.specs.Told.{Next}
-use Rattle.collection.specs.Told.{Send, End as Ends, Refuse}
+use Rattle.collection.specs.declared.Next.TheVariants.{Send, End as Ends, Refuse}
 use Rattle.collection.specs.Told.{Stepped}
 use Rattle.collection.specs.Collection.{awaited_of, refusal_of, look_of, move_of, setup_of, step_of, answer_of, fault_said}
 use Rattle.collection.specs.Steps.{makes, refused_step, taken_step, setup_taken, setup_refused}

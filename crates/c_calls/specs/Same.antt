@@ -16,7 +16,7 @@ use Rattle.phases.specs.Phases.{judged_by}
 use Rattle.plans.specs.Plans.{setup_answer}
 use Rattle.collection.specs.declared.Collection.{Collection}
 use Rattle.collection.specs.Told.{Next}
-use Rattle.collection.specs.Told.{Send, End as Ends, Refuse}
+use Rattle.collection.specs.declared.Next.TheVariants.{Send, End as Ends, Refuse}
 use Rattle.collection.specs.Told.{Stepped}
 use Rattle.collection.specs.Collection.{setup_of, step_of, copy_after}
 use Rattle.collection.specs.Steps.{setup_taken}

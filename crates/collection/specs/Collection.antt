@@ -28,7 +28,7 @@ use Rattle.turns.specs.Turns.{turn_of}
 use Rattle.touches.specs.Touched.{touched}
 use Rattle.collection.specs.declared.Collection.{Collection}
 use Rattle.collection.specs.Told.{Next}
-use Rattle.collection.specs.Told.{Send, End as Ends, Refuse}
+use Rattle.collection.specs.declared.Next.TheVariants.{Send, End as Ends, Refuse}
 use Rattle.collection.specs.Told.{Stepped}
 use Rattle.collection.specs.Told.{Decided}
 

@@ -25,7 +25,7 @@ use Rattle.turns.specs.Turns.{good}
 use Rattle.collection.specs.declared.Collection.{Collection}
 use Rattle.collection.specs.declared.Finish.{Finish}
 use Rattle.collection.specs.Told.{Next}
-use Rattle.collection.specs.Told.{Send, End as Ends, Refuse}
+use Rattle.collection.specs.declared.Next.TheVariants.{Send, End as Ends, Refuse}
 use Rattle.collection.specs.Collection.{expected_of, look_of, refusal_of, move_of, decide_of, step_of, copy_after}
 use Rattle.collection.specs.Laws.{state_valid, not_refused, Moves, move_cases}
 use Rattle.collection.specs.Steps.{makes, touches, refused_step, refused_copy, taken_step, taken_copy}
@@ -72,7 +72,7 @@ chunk_copy s at d copy f r =
 -- ---- endings
 
 -- what follows is an ending or it is not
-pub not_sent : {A : Type 0} {w : Words} {e : Finish} → Send w ≡ Ends e → A
+pub not_sent : {A : Type 0} {w : Words} {e : Finish} → ◌≡◌ {A = Next} (Send w) (Ends e) → A
 not_sent q = let z : ◌≡◌ {A = ℕ} 0 1 = cc in absurd (omega arith)
 
 pub not_refusal : {A : Type 0} {n : ℕ} {e : Finish} → Refuse n ≡ Ends e → A
@@ -84,7 +84,7 @@ ending_or x (Send w) = x
 ending_or x (Ends e) = e.ending
 ending_or x (Refuse n) = x
 
-pub ending_of : {x e : Finish} → Ends x ≡ Ends e → x.ending ≡ e.ending
+pub ending_of : {x e : Finish} → ◌≡◌ {A = Next} (Ends x) (Ends e) → x.ending ≡ e.ending
 ending_of {x} q = ap (ending_or x.ending) q
 
 -- what is said of an ending: a success leaves the area's bytes and zeros after them, every other ending leaves zeros

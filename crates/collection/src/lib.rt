@@ -7,7 +7,7 @@
 #![tactic(auto)]
 
 ghost use Rattle.std.specs.Prelude.{◌≡◌, length};
-ghost use Rattle.collection.specs.Told.{stepped_told, decided_told};
+ghost use Rattle.collection.specs.Told.{next_told, stepped_told, decided_told};
 ghost use Rattle.collection.specs.Collection.{awaited_of, turned_to, sends, ends, act_of, decide_of, step_of, copy_after, Bounded};
 
 use answers::Refusal;
@@ -45,12 +45,25 @@ pub struct Completion<'a> {
     pub data: &'a [u8],
 }
 
-// What follows: the next command, the ending, or a refusal that changed nothing.
+// What follows: the next command, the ending, or a refusal that changed nothing. R is the refusal, or its number where C is told it.
 #[derive(Clone, Copy)]
-pub enum Next {
+pub enum Next<R = Refusal> {
     Send(Words),
     End(Finish),
-    Refuse(Refusal),
+    Refuse(R),
+}
+
+impl Next {
+    // The same with the number of a refusal.
+    pub fn numbered(self) -> Next<u8>
+        ensures { result ≡ next_told self }
+    {
+        match self {
+            Next::Send(words) => Next::Send(words),
+            Next::End(finish) => Next::End(finish),
+            Next::Refuse(refusal) => Next::Refuse(refusal.number()),
+        }
+    }
 }
 
 #[derive(Clone, Copy)]
@@ -67,7 +80,8 @@ pub struct Decided {
 }
 
 impl Collection {
-    // The command that is awaited: five zero words after the ending.
+    // The command that is awaited: five zero words after the ending. Inlined, so that a setup pays for the first command's case alone.
+    #[inline(always)]
     #[tactic(auto, unfolding(crate::specs::Collection::awaited_of))]
     pub fn awaited(self) -> Words
         ensures { result ≡ awaited_of self }

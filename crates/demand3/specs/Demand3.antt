@@ -17,7 +17,7 @@ use Rattle.phases.specs.Asked.{words_by}
 use Rattle.completions.specs.Completions.{shows_none}
 use Rattle.endings.specs.Endings.{number_of, newer_of}
 use Rattle.collection.specs.declared.Finish.{Finish}
-use Rattle.collection.specs.Told.{End as Ends, Refuse}
+use Rattle.collection.specs.declared.Next.TheVariants.{End as Ends, Refuse}
 use Rattle.verdicts.specs.Accepted.{unless_disagree}
 use Rattle.controller.specs.Controller.{World, lent_by}
 use Rattle.controller.specs.Asked.{asked}

@@ -7,7 +7,7 @@ use Rattle.answers.specs.Answers.{bad_setup}
 use Rattle.words.specs.declared.Words.{Words}
 use Rattle.plans.specs.declared.Plan.{Plan}
 use Rattle.collection.specs.declared.Collection.{Collection}
-use Rattle.collection.specs.Told.{Refuse}
+use Rattle.collection.specs.declared.Next.TheVariants.{Refuse}
 use Rattle.collection.specs.Told.{Stepped}
 use Rattle.collection.specs.Collection.{step_of, copy_after}
 use Rattle.shared_layouts.specs.Layouts.{caps_of}

@@ -8,7 +8,7 @@ use Rattle.words.specs.Words.{Built}
 use Rattle.pages.specs.declared.Caps.{Caps}
 use Rattle.completions.specs.Plan.{Planned, plan_of}
 use Rattle.collection.specs.declared.Collection.{Collection}
-use Rattle.collection.specs.Told.{Refuse}
+use Rattle.collection.specs.declared.Next.TheVariants.{Refuse}
 use Rattle.collection.specs.Told.{Stepped}
 use Rattle.collection.specs.Collection.{step_of, copy_after}
 use Rattle.planned_layout.specs.Layout.{planned_bytes}

@@ -105,9 +105,10 @@ pub fn bumbazeel_setup(
         room,
         caps: can,
     });
+    let told = x.next.numbered();
     *state = state_layout::write_state(x.state);
-    *next = next_layout::write_next(x.next);
-    next_layout::kind_of(x.next)
+    *next = next_layout::write_next(told);
+    next_layout::kind_of(told)
 }
 
 // The state's bytes after a step: those of the next state, or as they were where it refuses.
@@ -132,11 +133,12 @@ pub fn bumbazeel_step(
         ≡ step_at state.old (flag_of ok) «data».now copy.old }
 {
     if !state_layout::state_intact(&*state) {
-        *next = next_layout::write_next(Next::Refuse(Refusal::BadSetup));
+        *next = next_layout::write_next(Next::Refuse(answers::BAD_SETUP));
         return next_layout::REFUSED;
     }
     let x = state_layout::read_state(&*state).step(Completion { ok: ok != 0, data }, copy);
+    let told = x.next.numbered();
     *state = state_after(*state, x);
-    *next = next_layout::write_next(x.next);
-    next_layout::kind_of(x.next)
+    *next = next_layout::write_next(told);
+    next_layout::kind_of(told)
 }

@@ -8,7 +8,7 @@ use Rattle.words.specs.Words.{no_words}
 use Rattle.endings.specs.Endings.{number_of, newer_of, fault_in}
 use Rattle.shared_layouts.specs.Layouts.{fault_number}
 use Rattle.collection.specs.Told.{Next}
-use Rattle.collection.specs.Told.{Send, End as Ends, Refuse}
+use Rattle.collection.specs.declared.Next.TheVariants.{Send, End as Ends, Refuse}
 
 -- the kinds: a command to send, an ending, a refusal
 abbrev pub send : ℕ

@@ -5,8 +5,7 @@
 #![tactic(auto)]
 
 ghost use Rattle.std.specs.Prelude.{◌≡◌};
-ghost use Rattle.collection.specs.Told.{next_told};
-ghost use Rattle.collection.specs.Told.Next.{Refuse};
+ghost use Rattle.collection.specs.declared.Next.TheVariants.{Refuse};
 ghost use Rattle.next_layout.specs.Layout.{kind_of, next_parts, next_bytes};
 
 use collection::Next;
@@ -21,8 +20,8 @@ pub const ENDED: u8 = 1;
 pub const REFUSED: u8 = 2;
 
 // The number of what follows.
-pub fn kind_of(next: Next) -> u8
-    ensures { result ≡ kind_of (next_told next) }
+pub fn kind_of(next: Next<u8>) -> u8
+    ensures { result ≡ kind_of next }
 {
     match next {
         Next::Send(_) => SEND,
@@ -57,8 +56,8 @@ pub fn write_refused(answer: u8) -> [u8; 32]
 
 // Its 32 bytes.
 #[tactic(auto, unfolding(crate::specs::Layout::next_bytes))]
-pub fn write_next(next: Next) -> [u8; 32]
-    ensures { result ≡ next_bytes (next_told next) }
+pub fn write_next(next: Next<u8>) -> [u8; 32]
+    ensures { result ≡ next_bytes next }
 {
     match next {
         Next::Send(w) => next_parts(SEND, 0, 0, 0, w, 0),
@@ -73,6 +72,6 @@ pub fn write_next(next: Next) -> [u8; 32]
                 e.count,
             )
         }
-        Next::Refuse(refusal) => write_refused(refusal.number()),
+        Next::Refuse(answer) => write_refused(answer),
     }
 }

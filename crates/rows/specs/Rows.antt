@@ -17,7 +17,7 @@ use Rattle.verdicts.specs.Verdicts.{candidate_ok, field_bad, last_after, command
 use Rattle.plans.specs.Plans.{setup_answer}
 use Rattle.phases.specs.Asked.{words_by}
 use Rattle.collection.specs.Collection.{awaited_of, setup_of}
-use Rattle.collection.specs.Told.{Send}
+use Rattle.collection.specs.declared.Next.TheVariants.{Send}
 use Rattle.controller.specs.Controller.{World, world, candidate_of, page_of, host_captured, before, sent_of, afterwards, answered, command_of}
 
 -- ---- the world of the rows

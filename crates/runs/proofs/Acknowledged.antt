@@ -26,7 +26,7 @@ use Rattle.collection.specs.Steps.{makes, setup_taken, refused_step, taken_step}
 use Rattle.collection.specs.declared.Collection.{Collection}
 use Rattle.collection.specs.declared.Finish.{Finish}
 use Rattle.collection.specs.Told.{Next}
-use Rattle.collection.specs.Told.{Send, End as Ends, Refuse}
+use Rattle.collection.specs.declared.Next.TheVariants.{Send, End as Ends, Refuse}
 use Rattle.runs.specs.Run.{Completion, step_by, given, after, play, state_of, record_of}
 use Rattle.runs.specs.Counted.{plan_stays}
 use Rattle.runs.specs.Bound.{Reached}

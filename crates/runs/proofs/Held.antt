@@ -36,7 +36,7 @@ use Rattle.collection.specs.Steps.{makes, touches, setup_taken, refused_step, re
 use Rattle.collection.specs.declared.Collection.{Collection}
 use Rattle.collection.specs.declared.Finish.{Finish}
 use Rattle.collection.specs.Told.{Next}
-use Rattle.collection.specs.Told.{Send, End as Ends, Refuse}
+use Rattle.collection.specs.declared.Next.TheVariants.{Send, End as Ends, Refuse}
 use Rattle.runs.specs.Run.{after, state_of, record_of}
 use Rattle.runs.specs.Counted.{step_counts}
 use Rattle.runs.specs.Bound.{Reached}

@@ -26,7 +26,7 @@ use Rattle.collection.specs.Laws.{move_cases}
 use Rattle.collection.specs.Steps.{makes, awaited_taken, setup_taken, refused_step, taken_step}
 use Rattle.collection.specs.declared.Collection.{Collection}
 use Rattle.collection.specs.Told.{Next}
-use Rattle.collection.specs.Told.{Send, End as Ends, Refuse}
+use Rattle.collection.specs.declared.Next.TheVariants.{Send, End as Ends, Refuse}
 use Rattle.collection.specs.Told.{Stepped}
 use Rattle.runs.specs.Run.{Completion, step_by, given, play, record_of}
 use Rattle.runs.specs.Counted.{step_counts}
@@ -63,7 +63,7 @@ record Gives (s : Collection) (x : Stepped) (w : Words) : Type 0 where
   later : later_by x.state.phase ≡ true
   ack : ack_by x.state.phase ≡ true → s.plan.page ≡ controller_page
 
-same_words : {v w : Words} → Send v ≡ Send w → w ≡ v
+same_words : {v w : Words} → ◌≡◌ {A = Next} (Send v) (Send w) → w ≡ v
 same_words q = cc
 
 abbrev Gave : Collection → Seen → Words → Move → Type 0

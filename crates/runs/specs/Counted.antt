@@ -14,7 +14,8 @@ use Rattle.collection.specs.Steps.{makes, setup_taken, setup_refused, refused_st
 use Rattle.choices.specs.Tests.{same_or_not}
 use Rattle.collection.specs.declared.Collection.{Collection}
 use Rattle.collection.specs.declared.Finish.{Finish}
-use Rattle.collection.specs.Told.{Send, End as Ends}
+use Rattle.collection.specs.declared.Next.TheVariants.{Send, End as Ends}
+use Rattle.collection.specs.Told.{Next}
 use Rattle.collection.specs.Told.{Stepped}
 use Rattle.runs.specs.Run.{Completion, step_by, given, after, play, state_of, record_of}
 
@@ -24,7 +25,7 @@ pub record Counts (s : Collection) (x : Stepped) : Type 0 where
   pub count : x.state.count ≡ s.count + length (given x.next)
   pub ending : (e : Finish) → x.next ≡ Ends e → e.count ≡ s.count
 
-clashes : {A : Type 0} {w : Words} {e : Finish} → Send w ≡ Ends e → A
+clashes : {A : Type 0} {w : Words} {e : Finish} → ◌≡◌ {A = Next} (Send w) (Ends e) → A
 clashes q = let z : ◌≡◌ {A = ℕ} 0 1 = cc in absurd (omega arith)
 
 act_counts : (s : Collection) (h : Seen) (m : Move) → Counts s (makes s h m)

@@ -20,7 +20,7 @@ use Rattle.collection.specs.Collection.{setup_of, step_of, copy_after}
 use Rattle.collection.specs.declared.Collection.{Collection}
 use Rattle.collection.specs.declared.Finish.{Finish}
 use Rattle.collection.specs.Told.{Next}
-use Rattle.collection.specs.Told.{Send, End as Ends, Refuse}
+use Rattle.collection.specs.declared.Next.TheVariants.{Send, End as Ends, Refuse}
 use Rattle.collection.specs.Told.{Stepped}
 use Rattle.runs.specs.Run.{Completion, after}
 

@@ -26,7 +26,7 @@ use Rattle.judgement.specs.Judgement.{matches}
 use Rattle.turns.specs.Turns.{good}
 use Rattle.collection.specs.declared.Collection.{Collection}
 use Rattle.collection.specs.declared.Finish.{Finish}
-use Rattle.collection.specs.Told.{End as Ends}
+use Rattle.collection.specs.declared.Next.TheVariants.{End as Ends}
 use Rattle.collection.specs.Collection.{refusal_of, look_of, move_of, setup_of}
 use Rattle.collection.specs.Copied.{not_sent, not_refusal, ending_of}
 use Rattle.collection.specs.Laws.{state_valid, not_refused, move_cases}

@@ -11,7 +11,7 @@ use Rattle.completions.specs.Plan.{plan_by}
 use Rattle.collection.specs.Collection.{setup_of, step_of, refusal_of, answer_of}
 use Rattle.collection.specs.declared.Collection.{Collection}
 use Rattle.collection.specs.Told.{Next}
-use Rattle.collection.specs.Told.{Send, End as Ends, Refuse}
+use Rattle.collection.specs.declared.Next.TheVariants.{Send, End as Ends, Refuse}
 use Rattle.collection.specs.Told.{Stepped}
 
 pub record Completion : Type 0 where

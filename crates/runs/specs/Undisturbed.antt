@@ -23,7 +23,7 @@ use Rattle.completions.specs.Looked.{Opens, opens_chunks, success_opens}
 use Rattle.endings.specs.declared.Ending.TheVariants.{Success}
 use Rattle.judgement.specs.Judgement.{matches}
 use Rattle.collection.specs.declared.Collection.{Collection}
-use Rattle.collection.specs.Told.{End as Ends}
+use Rattle.collection.specs.declared.Next.TheVariants.{End as Ends}
 use Rattle.collection.specs.Told.{Stepped}
 use Rattle.collection.specs.Collection.{refusal_of, setup_of, step_of, beginning}
 use Rattle.collection.specs.Steps.{in_phase, opened_by, setup_taken, first_opens, chunk_good, later_done, later_acknowledges}

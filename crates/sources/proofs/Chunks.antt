@@ -28,7 +28,7 @@ use Rattle.collection.specs.Collection.{awaited_of, expected_of, look_of, refusa
 use Rattle.collection.specs.Steps.{in_phase, ended_in, chunk_good, chunk_refused, ack_done}
 use Rattle.endings.specs.declared.Ending.TheVariants.{Success}
 use Rattle.collection.specs.declared.Collection.{Collection}
-use Rattle.collection.specs.Told.{Send}
+use Rattle.collection.specs.declared.Next.TheVariants.{Send}
 use Rattle.collection.specs.Told.{Stepped}
 use Rattle.collection.specs.Copied.{chunk_copy, ending_copy, sending_copy}
 use Rattle.runs.specs.Run.{given}

@@ -19,7 +19,7 @@ use Rattle.collection.specs.Collection.{awaited_of, beginning, setup_of}
 use Rattle.collection.specs.Steps.{setup_taken}
 use Rattle.collection.specs.declared.Finish.{Finish}
 use Rattle.collection.specs.Told.{Next}
-use Rattle.collection.specs.Told.{Send, End as Ends, Refuse}
+use Rattle.collection.specs.declared.Next.TheVariants.{Send, End as Ends, Refuse}
 use Rattle.collection.specs.Told.{Stepped}
 use Rattle.runs.specs.Run.{given, acknowledging, most_chunks}
 use Rattle.runs.specs.Bound.{Reached}
@@ -71,7 +71,7 @@ module _ (D : Source) (p : Plan) (K : Keeps D p) where
       (λ g. over_by D p K s.collection.phase s i.now g)
       (λ g. let z : ◌≡◌ {A = ℕ} 1 0 = ap (λ (m : Next). length (given m)) (sym (said_by D p K s.collection.phase s i.now g) ∙ e) ∙ ap length none in absurd (omega arith))
 
-  same_ending : {e f : Finish} → Ends e ≡ Ends f → e ≡ f
+  same_ending : {e f : Finish} → ◌≡◌ {A = Next} (Ends e) (Ends f) → e ≡ f
   same_ending q = cc
 
   bound : (k most : ℕ) (s : Stand D) → Common D p K s → Reached most s.collection → s.counts.changes ≤ k → s.collection.count ≤ most_commands p k most

@@ -10,7 +10,7 @@ use Rattle.choices.specs.Tests.{same_or_not}
 use Rattle.plans.specs.declared.Plan.{Plan}
 use Rattle.phases.specs.Phases.{judged_by}
 use Rattle.collection.specs.Told.{Next}
-use Rattle.collection.specs.Told.{Send, End as Ends, Refuse}
+use Rattle.collection.specs.declared.Next.TheVariants.{Send, End as Ends, Refuse}
 use Rattle.sources.specs.Source.{Source, Collector, Turn, Counters, changed, heard, Stand, for_lent, happens, happen, hears, turn_by, run, begun, collected}
 use Rattle.sources.specs.Promise.{noticed}
 use Rattle.sources.specs.Few.{Among}

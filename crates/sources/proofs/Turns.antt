@@ -20,7 +20,7 @@ use Rattle.completions.specs.Completions.{shows_none}
 use Rattle.collection.specs.Collection.{awaited_of}
 use Rattle.collection.specs.declared.Collection.{Collection}
 use Rattle.collection.specs.Told.{Next}
-use Rattle.collection.specs.Told.{Send, End as Ends, Refuse}
+use Rattle.collection.specs.declared.Next.TheVariants.{Send, End as Ends, Refuse}
 use Rattle.runs.specs.Run.{given}
 use Rattle.runs.specs.Counted.{step_counts}
 use Rattle.sources.specs.Source.{Source, ours, Done, Turn, Counters, Stand, for_lent, fine, data_of, happens, happen, hears, turn_by, run}

@@ -10,7 +10,7 @@ use Rattle.plans.specs.Plans.{area_last, area_bytes}
 use Rattle.completions.specs.Completions.{shows_none}
 use Rattle.collection.specs.Collection.{awaited_of}
 use Rattle.collection.specs.declared.Finish.{Finish}
-use Rattle.collection.specs.Told.{Send, End as Ends}
+use Rattle.collection.specs.declared.Next.TheVariants.{Send, End as Ends}
 use Rattle.runs.specs.Run.{most_chunks}
 use Rattle.runs.specs.Bound.{Reached}
 use Rattle.sources.specs.Source.{Source, Stand}

@@ -29,7 +29,7 @@ use Rattle.endings.specs.declared.Ending.TheVariants.{Success, OutOfReach, NoRoo
 use Rattle.endings.specs.Endings.{short_by}
 use Rattle.turns.specs.Turns.{good as succeeds}
 use Rattle.collection.specs.declared.Collection.{Collection}
-use Rattle.collection.specs.Told.{Send}
+use Rattle.collection.specs.declared.Next.TheVariants.{Send}
 use Rattle.collection.specs.Told.{Stepped}
 use Rattle.collection.specs.Copied.{ending_copy, sending_copy}
 use Rattle.sources.specs.Source.{Source, ours, Done, heard, Stand, for_lent, fine, data_of, stepped, hears}

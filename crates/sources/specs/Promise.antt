@@ -8,7 +8,7 @@ use Rattle.plans.specs.Plans.{area_last, area_bytes, reach}
 use Rattle.completions.specs.Completions.{shows_none}
 use Rattle.endings.specs.declared.Ending.TheVariants.{Success, OutOfReach, NoRoom, Withdrawn, Nothing}
 use Rattle.collection.specs.declared.Finish.{Finish}
-use Rattle.collection.specs.Told.{End as Ends, Refuse}
+use Rattle.collection.specs.declared.Next.TheVariants.{End as Ends, Refuse}
 use Rattle.runs.specs.Run.{acknowledging, most_chunks}
 use Rattle.sources.specs.Source.{Source, Stand}
 use Rattle.sources.specs.Keeps.{Keeps}

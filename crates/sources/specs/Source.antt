@@ -9,7 +9,7 @@ use Rattle.plans.specs.declared.Plan.{Plan}
 use Rattle.phases.specs.Phases.{judged_by}
 use Rattle.collection.specs.declared.Collection.{Collection}
 use Rattle.collection.specs.Told.{Next}
-use Rattle.collection.specs.Told.{Send, End as Ends, Refuse}
+use Rattle.collection.specs.declared.Next.TheVariants.{Send, End as Ends, Refuse}
 use Rattle.collection.specs.Told.{Stepped}
 use Rattle.collection.specs.Collection.{setup_of, step_of, copy_after}
 use Rattle.runs.specs.Run.{given}

@@ -12,7 +12,7 @@ use Rattle.endings.specs.declared.Ending.TheVariants.{Success}
 use Rattle.collection.specs.Collection.{setup_of, step_of, copy_after, sends, ends}
 use Rattle.collection.specs.declared.Collection.{Collection}
 use Rattle.collection.specs.Told.{Next}
-use Rattle.collection.specs.Told.{Send, End as Ends, Refuse}
+use Rattle.collection.specs.declared.Next.TheVariants.{Send, End as Ends, Refuse}
 use Rattle.collection.specs.Told.{Stepped}
 use Rattle.sources.specs.Source.{Collector}
 

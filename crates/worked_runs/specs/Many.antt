@@ -24,7 +24,7 @@ use Rattle.turns.specs.Turns.{turn_of}
 use Rattle.touches.specs.Touched.{touched}
 use Rattle.collection.specs.Collection.{setup_of, step_of, decide_of, refusal_of, valid_state, completion_fits, expected_of, look_of, move_of, turn_by, act_of as moved, awaited_of, copy_after}
 use Rattle.collection.specs.Told.{Next}
-use Rattle.collection.specs.Told.{Send}
+use Rattle.collection.specs.declared.Next.TheVariants.{Send}
 use Rattle.controller.specs.Controller.{World, command_of, answered, before, afterwards, sent_of, page_of, host_captured}
 use Rattle.runs.specs.Run.{most_chunks}
 use Rattle.sources.specs.Source.{Source, ours, Turn, Stand, happens, happen, hears, sends, turn_by as turnOn, run, begun, collected}

@@ -15,7 +15,7 @@ use Rattle.endings.specs.declared.Ending.{Ending}
 use Rattle.endings.specs.declared.Ending.TheVariants.{Success, UsedUp, BrokeItsWord, OutOfReach}
 use Rattle.collection.specs.declared.Finish.{Finish}
 use Rattle.collection.specs.Told.{Next}
-use Rattle.collection.specs.Told.{Send, End as Ends}
+use Rattle.collection.specs.declared.Next.TheVariants.{Send, End as Ends}
 use Rattle.controller.specs.Controller.{World}
 use Rattle.runs.specs.Run.{most_chunks}
 use Rattle.sources.specs.Source.{Collector, ours, Turn}
@@ -208,7 +208,7 @@ never_stops_refuted =
     let x = computed.going_on in
     (meant never_stops undisturbed 0 (omega arith) x, λ newer d. let f = d.ends (omega (arith, x.chunks_are)) in clashes (sym x.said_is ∙ f.said))
   where
-    clashes : {w : _} {e : Finish} → Send w ≡ Ends e → ⊥
+    clashes : {w : _} {e : Finish} → ◌≡◌ {A = Next} (Send w) (Ends e) → ⊥
     clashes q = let z : ◌≡◌ {A = ℕ} 0 1 = cc in omega arith
 
 -- One that reads the generation once: its copy is stitched from two captures.

@@ -13,4 +13,4 @@ returns c =
     let a = c.args in
     let plan : Caps → Plan = λ x. record { page = a.page; create = flag_of a.create; area = a.area; chunk = a.chunk; attempts = a.attempts; room = a.room; caps = x } in
     setup_is (c.setup-x.ensures ∙ ap (λ (x : Caps). setup_of (plan x)) c.read_caps-can.ensures)
-    c.write_state.ensures c.write_next.ensures c.kind_of.ensures
+    c.write_state.ensures (c.write_next.ensures ∙ rw c.numbered-told.ensures) (c.kind_of.ensures ∙ rw c.numbered-told.ensures)

@@ -14,6 +14,7 @@ returns-then-not-state_intact c =
 pub returns : goal.returns
 returns c =
     let a = c.args in
+    let kind = c.kind_of.ensures ∙ rw c.numbered-told.ensures in
     step_taken a.state.now (flag_of a.ok) a.data.now a.copy.now c.state_intact.ensures (ap not c.if-not-state_intact.false)
-    c.read_state.ensures c.step-x.ensures c.kind_of.ensures (c.state_after.ensures ∙ rw c.kind_of.ensures)
-    c.write_next-2.ensures
+    c.read_state.ensures c.step-x.ensures kind (c.state_after.ensures ∙ rw kind)
+    (c.write_next-2.ensures ∙ rw c.numbered-told.ensures)
