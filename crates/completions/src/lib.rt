@@ -144,7 +144,8 @@ fn good(page: u8, da4s: bool, f: Fields) -> Result<Fields, Fault>
     Ok(f)
 }
 
-// The fields of a header of the page asked for, under a DA4S, or what is at fault in it.
+// The fields of a header of the page asked for, under a DA4S, or what is at fault in it. Inlined, so that a plan and a step do not carry the fields from here to there.
+#[inline(always)]
 #[tactic(auto, unfolding(header::specs::Header::check_of, header::specs::Header::fault_of, header::specs::Header::field_fault))]
 fn check(page: u8, da4s: bool, h: &[u8]) -> Result<Fields, Fault>
     ensures { checked result ≡ check_of page da4s h.now }

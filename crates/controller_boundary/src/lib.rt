@@ -59,13 +59,13 @@ pub fn bumbazeel_fresh(
     answers::DISAGREE
 }
 
-// The record's bytes after an answer: those of the record that a success gives, or as they were.
-fn record_after(lent: [u8; 300], answer: Result<Record, Refusal>) -> [u8; 300]
-    ensures { (r : Record) → result ≡ record_after lent (result_number answer) (record_left r answer) }
+// The record's bytes after an answer: those of the record that a success gives, or as they were. In place: handed by value, they cost a command a tenth of its instructions.
+fn record_after(own: &mut [u8; 300], answer: Result<Record, Refusal>)
+    ensures { (r : Record) → own.new ≡ record_after own.old (result_number answer) (record_left r answer) }
 {
     match answer {
-        Ok(after) => record_layout::write_record(after),
-        Err(_) => lent,
+        Ok(after) => *own = record_layout::write_record(after),
+        Err(_) => {}
     }
 }
 
@@ -113,7 +113,7 @@ pub fn bumbazeel_command(
         buffer,
     );
     *class = class_number(answer);
-    *own = record_after(*own, answer);
+    record_after(own, answer);
     answers::number(answer)
 }
 
@@ -143,7 +143,7 @@ pub fn bumbazeel_capture(
             reason,
         },
     );
-    *own = record_after(*own, taken);
+    record_after(own, taken);
     answers::number(taken)
 }
 
@@ -159,6 +159,6 @@ pub fn bumbazeel_drop(own: &mut [u8; 300], host_store: &[u8], controller_store: 
         host_store,
         controller_store,
     );
-    *own = record_after(*own, dropped);
+    record_after(own, dropped);
     answers::number(dropped)
 }
