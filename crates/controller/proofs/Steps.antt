@@ -1,6 +1,6 @@
 -- What `command`, `capture` and `drop` do, path by path, in variables: each function's proof hands over what its calls ensure.
 -- Assumes nothing.
-use Rattle.std.specs.Prelude.{ℕ, ◌*◌, ◌≤◌, ◌≡◌, refl, List, [], Result, Err, Bool, true, false, length, take}
+use Rattle.std.specs.Prelude.{ℕ, ◌*◌, ◌≤◌, ◌≡◌, refl, List, [], Result, Err, Bool, true, false, eqb, length, take}
 use Rattle.std.proofs.Common.{sym, ap, subst, ◌∙◌, arith, eqb-true, eq-eqb, ne_eqb}
 use Rattle.choices.specs.Choice.{pick}
 use Rattle.choices.specs.Tests.{clash, by_test, and_left}
@@ -188,6 +188,23 @@ captured_is w candidate x y e z en ey =
     let g = captures w.own candidate.last (lent_by w candidate []) (sym e ∙ z) in
     let es = reason_whole candidate.reason _ g.candidate.long refl in
     rw (ey, en.0, en.1, es, ← e, z)
+
+-- the same as what is left, by whether it is taken
+pub capture_taken : (w : World) (candidate : Candidate) → eqb (capture_answer w.own candidate.last (lent_by w candidate [])) success ≡ true
+    → capture_of w candidate
+    ≡ outcome success 0
+    (world (controller_taken w.own (trim_of w.own.caps 0 candidate.last) (reason_of candidate.reason)) w.host
+    (kept_in w.controller candidate.bytes (last_of (top_of w.own.caps 0) candidate.last)))
+    []
+capture_taken w candidate t =
+    let next = controller_taken w.own (trim_of w.own.caps 0 candidate.last) (reason_of candidate.reason) in
+    sym (captured_is w candidate success (record { answer = success; class = 0; own = next }) (sym (eqb-true _ success t)) refl (refl, refl) refl)
+
+pub capture_refused : (w : World) (candidate : Candidate) → eqb (capture_answer w.own candidate.last (lent_by w candidate [])) success ≡ false
+    → capture_of w candidate ≡ outcome (capture_answer w.own candidate.last (lent_by w candidate [])) 0 w []
+capture_refused w candidate t =
+    let x = capture_answer w.own candidate.last (lent_by w candidate []) in
+    sym (capture_refused_is w candidate x (record { answer = x; class = 0; own = w.own }) refl (λ z. clash (eq-eqb _ success z) t) refl)
 
 -- ---- the paths of a drop
 

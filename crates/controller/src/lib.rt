@@ -5,12 +5,12 @@
 // written, so that what is refused changes nothing. A record and its stores stay three arguments: each call lends another of the stores to be written.
 #![tactic(auto)]
 
-ghost use Rattle.std.specs.Prelude.{◌≡◌, []};
+ghost use Rattle.std.specs.Prelude.{◌≡◌, [], length};
 ghost use Rattle.choices.specs.Choice.{pick};
 ghost use Rattle.answers.specs.Answers.{result_number};
 ghost use Rattle.captures.specs.Captures.{cleared_of};
 ghost use Rattle.verdicts.specs.Verdicts.{class_in};
-ghost use Rattle.controller.specs.Controller.{record_made, store_made, acknowledges, world, candidate_of, outcome, lent_by, record_left, command_of, capture_of, drop_of};
+ghost use Rattle.controller.specs.Controller.{record_made, store_made, acknowledges, world, candidate_of, outcome, record_left, command_of, capture_of, drop_of};
 
 use answers::Refusal;
 use captures::Candidate;
@@ -20,7 +20,7 @@ use words::{Command, Words};
 
 // The bytes of what is lent.
 fn lent(host: &[u8], controller: &[u8], candidate: Candidate, buf: &[u8]) -> Lent
-    ensures { (r : Record) → result ≡ lent_by (world r host.now controller.now) (candidate_of candidate.entry.last candidate.entry.bytes.now candidate.entry.reason.now) buf.now }
+    ensures { result ≡ record { host = length host.now; controller = length controller.now; bytes = length candidate.entry.bytes.now; reason = length candidate.entry.reason.now; buf = length buf.now } }
 {
     Lent {
         host: host.len(),
@@ -73,6 +73,7 @@ pub fn command(
 }
 
 // A capture of the controller's own on 08h, over an unread one too, gives the record afterwards. A refusal leaves stores and record as lent.
+#[tactic(auto, using(answers::specs::Refused::refused_is, crate::proofs::Steps::capture_taken, crate::proofs::Steps::capture_refused))]
 pub fn capture(
     r: Record,
     host: &[u8],

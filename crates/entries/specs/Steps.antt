@@ -92,6 +92,11 @@ counted_alone r k =
     (λ t. rw t (λ p. let a = place_found r.ending k p in rw (a.ended, a.counted)))
     (λ t. rw t (λ p. some_none k p))
 
+-- and so is one whose number is written in other words
+pub one_counted : (r : Run) (k n : ℕ) → Some k ≡ place_of r → n ≡ 1
+    → Ok (record { runs = set (replicate 8 0) k n; blocks = r.blocks; commands = r.commands; failed = r.failed }) ≡ alone r
+one_counted r k n p e = rw e (counted_alone r k p)
+
 -- any other cannot be
 pub not_counted : (r : Run) → None ≡ place_of r → Err BadSetup ≡ alone r
 unfolding is_run

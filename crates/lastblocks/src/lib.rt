@@ -41,11 +41,13 @@ pub fn last_ok(da4s: bool, a: [u32; 4]) -> bool
     area2_ok(a) & area3_ok(a) & area4_ok(da4s, a)
 }
 
-// Whether all four are the same. It stands beside `==`, since docs/PROMISES.md names it and two must-fail edits turn what it answers.
+// Whether all four are the same, one by one. It stands beside `==` of the arrays, since docs/PROMISES.md names it, and two must-fail edits each change one comparison:
+// with `==` in its body the proof refused the right numbers in their place too.
+#[tactic(auto, unfolding(crate::specs::LastBlocks::same_last, choices::specs::Tests::holds))]
 pub fn same_last(a: [u32; 4], b: [u32; 4]) -> bool
     ensures { result ≡ same_last a b }
 {
-    a == b
+    (a[0] == b[0]) & (a[1] == b[1]) & (a[2] == b[2]) & (a[3] == b[3])
 }
 
 // The greatest of the four, written out, since two must-fail edits each change one place of it.

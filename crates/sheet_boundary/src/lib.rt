@@ -62,6 +62,7 @@ pub fn bumbazeel_new_sheet(sheet: &mut [u8; 104])
 }
 
 // Enters a finished run: how it ended, the blocks kept, the commands sent and the failed attempts.
+#[tactic(auto, unfolding(crate::specs::Boundary::enter_at))]
 pub fn bumbazeel_enter(sheet: &mut [u8; 104], ending: u8, kept: u64, sent: u64, failed: u64) -> u8
     ensures { (result ≡ (enter_at sheet.old (run_of ending kept sent failed)).answer)
         × (sheet.new ≡ bytes_after sheet.old (enter_at sheet.old (run_of ending kept sent failed))) }
@@ -77,6 +78,7 @@ pub fn bumbazeel_enter(sheet: &mut [u8; 104], ending: u8, kept: u64, sent: u64, 
 }
 
 // Adds another sheet.
+#[tactic(auto, unfolding(crate::specs::Boundary::add_at))]
 pub fn bumbazeel_add(sheet: &mut [u8; 104], more: &[u8; 104]) -> u8
     ensures { (result ≡ (add_at sheet.old more.now).answer)
         × (sheet.new ≡ bytes_after sheet.old (add_at sheet.old more.now)) }

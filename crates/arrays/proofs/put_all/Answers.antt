@@ -1,6 +1,6 @@
 -- `arrays::put_all` meets its contract: after k turns the first k numbers are put; where not all fit nothing is written.
 -- Assumes nothing.
-use Rattle.std.proofs.Common.{◌∙◌, ap, List, take_all}
+use Rattle.std.proofs.Common.{◌∙◌, ap, List, take_all, rules}
 use Rattle.copies.specs.Parts.{put_at}
 use Rattle.arrays.specs.Arrays.{numbers_of}
 use Rattle.arrays.specs.Puts.{numbers_then, numbers_none, numbers_not, numbers_many}
@@ -17,7 +17,7 @@ loop-k-preserved g c =
     let a = c.args in
     let n = g.T.LittleEndian in
     numbers_then n.WIDTH n.number a.all.now a.out.now c.put_le.new.out c.loop-k.out a.at c.loop-k.k c.WIDTH-in-loop-k.result c.index-all-k.result g.met.T.LittleEndian.some
-    c.loop-k-test.true (rw c.WIDTH.ensures at c.if-all-out.true) c.if-at-out.true c.WIDTH-in-loop-k.ensures c.index-all-k.is c.loop-k.invariant c.put_le.ensures
+    c.loop-k-test.true (rw c.WIDTH.ensures at c.if-all-out.true) c.if-at-out.true c.WIDTH-in-loop-k.ensures c.index-all-k.is c.loop-k.invariant (c.put_le.ensures ∙ search (rules, c.index-all-k.is))
 
 pub returns-after-loop-k : goal.returns-after-loop-k
 returns-after-loop-k g c =

@@ -77,23 +77,27 @@ returns-in_err-setup_answer c =
 pub returns-in_err-fields : goal.returns-in_err-fields
 returns-in_err-fields c =
     let a = c.args in
+    let bad : checked (Err c.in_err-fields.field-0.0) ≡ check_of a.page a.caps.da4s a.h.now = grind arith in
     handed c.from_residual-in_err-fields.result _ c.from_residual-in_err-fields.ensures.1
-    ∙ by_fault a.page a.area a.caps a.chunk a.room a.h.now c.in_ok-setup_answer.ensures c.in_err-fields.field-0.0 c.in_err-fields.ensures
+    ∙ by_fault a.page a.area a.caps a.chunk a.room a.h.now c.in_ok-setup_answer.ensures c.in_err-fields.field-0.0 bad
 
 pub returns-then-page-fields : goal.returns-then-page-fields
 returns-then-page-fields c =
     let a = c.args in
-    by_none a.page a.area a.caps a.chunk a.room a.h.now c.in_ok-setup_answer.ensures c.in_ok-fields.fields c.in_ok-fields.ensures c.if-page-fields.true
+    let good : checked (Ok c.in_ok-fields.fields) ≡ check_of a.page a.caps.da4s a.h.now = grind arith in
+    by_none a.page a.area a.caps a.chunk a.room a.h.now c.in_ok-setup_answer.ensures c.in_ok-fields.fields good c.if-page-fields.true
 
 pub returns-in_err-area_answer : goal.returns-in_err-area_answer
 returns-in_err-area_answer c =
     let a = c.args in
+    let good : checked (Ok c.in_ok-fields.fields) ≡ check_of a.page a.caps.da4s a.h.now = grind arith in
     handed c.from_residual-in_err-area_answer.result _ c.from_residual-in_err-area_answer.ensures.1
-    ∙ by_area a.page a.area a.caps a.chunk a.room a.h.now c.in_ok-setup_answer.ensures c.in_ok-fields.fields c.in_ok-fields.ensures
+    ∙ by_area a.page a.area a.caps a.chunk a.room a.h.now c.in_ok-setup_answer.ensures c.in_ok-fields.fields good
     c.in_err-area_answer.field-0.0 c.if-page-fields.false c.in_err-area_answer.ensures
 
 pub returns : goal.returns
 returns c =
     let a = c.args in
-    plan_good a.page a.area a.caps a.chunk a.room a.h.now c.in_ok-fields.ensures c.in_ok-setup_answer.ensures refl c.in_ok-area_answer.ensures
+    let good : checked (Ok c.in_ok-fields.fields) ≡ check_of a.page a.caps.da4s a.h.now = grind arith in
+    plan_good a.page a.area a.caps a.chunk a.room a.h.now good c.in_ok-setup_answer.ensures refl c.in_ok-area_answer.ensures
     (rw c.if-page-fields.false) refl c.chunk_len.ensures c.area_last.ensures c.chunks_of.ensures

@@ -14,7 +14,7 @@ returns-in_err-on_command c =
     let w = world a.r a.host.now a.controller.now in
     let candidate = candidate_of a.candidate.last a.candidate.bytes.now a.candidate.reason.now in
     let e = c.in_err-on_command.field-0.0 in
-    let h = rw (c.lent-lent.ensures a.r) at c.in_err-on_command.ensures in
+    let h = rw (c.lent-lent.ensures) at c.in_err-on_command.ensures in
     let x = err_from_is_err_and c.from_residual.result c.from_residual.ensures.1 in
     command_is w candidate a.words a.buf.now c.read-c.ensures h.0
     (refused_is w candidate c.read-c.result a.buf.now (refusal_number e) (answered_by a.r c.from_residual.result) (refused_number e)
@@ -25,7 +25,7 @@ returns c =
     let a = c.args in
     let w = world a.r a.host.now a.controller.now in
     let candidate = candidate_of a.candidate.last a.candidate.bytes.now a.candidate.reason.now in
-    let h = rw (c.lent-lent.ensures a.r) at c.in_ok-on_command.ensures.0 in
+    let h = rw (c.lent-lent.ensures) at c.in_ok-on_command.ensures.0 in
     command_is w candidate a.words a.buf.now c.read-c.ensures h
     (served_is w candidate c.read-c.result a.buf.now success (record { answer = success; class = 0; own = c.acknowledged.result }) refl
     (command_accepted w candidate a.buf.now c.read-c.result success h refl)

@@ -15,7 +15,7 @@ returns-in_err-after c =
 pub returns-then-after-n : goal.returns-then-after-n
 returns-then-after-n c =
     let a = c.args in
-    ap (λ (n : ℕ). led_to a.at (Some n)) c.in_ok-after.ensures.1 ∙ sym (place_yes a.n a.at (more_yes a.n a.at (omega arith)))
+    ap (λ (n : ℕ). led_to a.at (Some n)) {y = a.at + block} (omega (arith, c.in_ok-after.ensures.1)) ∙ sym (place_yes a.n a.at (more_yes a.n a.at (omega arith)))
 
 pub returns-else-after-n : goal.returns-else-after-n
 returns-else-after-n c =
